@@ -1,0 +1,4 @@
+pub mod Causes
+pub mod Monitors
+pub mod Model
+pub mod Shown

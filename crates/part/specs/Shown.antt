@@ -1,0 +1,63 @@
+-- What the part shows: its registers and its output pins.
+use mathlib.Core.Bool.{Bool, cond, not}
+use Prim.Native.Nat.{ℕ, _+_, _/_, _%_}
+use lib.Dec.{eqb, ltb}
+use lib.ListN.{getD}
+use Rattle.std.specs.declared.option.Option.{Option}
+use Rattle.std.specs.declared.option.Option.the-variants.{Some, None}
+use Rattle.registers.specs.declared.pins.Strap.{Strap}
+use Rattle.registers.specs.declared.pins.Strap.the-variants.{Low, High, Open}
+use Rattle.registers.specs.Pins.{high, level-of}
+use Rattle.part.specs.declared.Outputs.{Outputs}
+use Rattle.part.specs.Causes.{weight, trip-byte, under-byte, over-byte, current-byte, tripped, alerted}
+use Rattle.part.specs.Model.{Model}
+
+-- PROT in bits 7 and 6
+abbrev pub prot-bits : Strap → ℕ
+prot-bits Low = 0x00
+prot-bits High = 0x40
+prot-bits Open = 0x80
+
+-- 0x32: PROT, and ON in bit 0
+abbrev pub input-byte : Model → ℕ
+input-byte m = prot-bits (m .pins .prot) + weight (high (m .pins .on)) 0x01
+
+-- 0x34: POL in bit 5, ALERT in bit 4, power-good in bit 0
+abbrev pub status-byte : Model → ℕ
+status-byte m = weight (high (m .pins .pol)) 0x20 + weight (alerted (m .logs)) 0x10 + weight (m .good) 0x01
+
+-- the byte that register n shows; a sample is its high eight bits and then its low two
+abbrev pub byte-of : Model → ℕ → ℕ
+byte-of m n =
+    cond (eqb n 0x00) (m .current .latest / 4)
+    (cond (eqb n 0x01) (m .current .latest % 4)
+    (cond (eqb n 0x02) (m .voltage .latest / 4)
+    (cond (eqb n 0x03) (m .voltage .latest % 4)
+    (cond (eqb n 0x08) (m .current .smallest / 4)
+    (cond (eqb n 0x09) (m .current .smallest % 4)
+    (cond (eqb n 0x0A) (m .current .largest / 4)
+    (cond (eqb n 0x0B) (m .current .largest % 4)
+    (cond (eqb n 0x0C) (m .voltage .smallest / 4)
+    (cond (eqb n 0x0D) (m .voltage .smallest % 4)
+    (cond (eqb n 0x0E) (m .voltage .largest / 4)
+    (cond (eqb n 0x0F) (m .voltage .largest % 4)
+    (cond (eqb n 0x31) (trip-byte (m .logs))
+    (cond (eqb n 0x32) (input-byte m)
+    (cond (eqb n 0x34) (status-byte m)
+    (cond (eqb n 0x35) (under-byte (m .logs))
+    (cond (eqb n 0x36) (over-byte (m .logs))
+    (cond (eqb n 0x37) (current-byte (m .logs))
+    (getD (m .settings) n 0))))))))))))))))))
+
+-- every number is answered: from 0x46 on there is no register
+abbrev pub register : Model → ℕ → Option ℕ
+register m n = cond (ltb n 70) (Some (byte-of m n)) None
+
+-- FAULT and ALERT are low when asserted; PG equals power-good when POL is 1, else its opposite
+abbrev pub outputs : Model → Outputs
+outputs m =
+    record {
+      fault = level-of (not (tripped (m .logs)));
+      alert = level-of (not (alerted (m .logs)));
+      pg = level-of (cond (high (m .pins .pol)) (m .good) (not (m .good)))
+    }

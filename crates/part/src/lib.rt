@@ -1,0 +1,37 @@
+//! The part itself: what it holds, what power-up leaves in it, and what it shows.
+pub mod causes;
+pub mod monitor;
+mod power;
+mod shown;
+
+use causes::Compares;
+use causes::Logs;
+use monitor::Monitor;
+use registers::pins::Level;
+use registers::pins::Pins;
+use registers::settings::Settings;
+use registers::pins::LevelPartialEq;
+
+/// A MAX5978: its pins, its settings, and what it has measured, logged and decided since power-up.
+#[derive(Clone, Copy)]
+pub struct Part {
+    pins: Pins,
+    settings: Settings,
+    current: Monitor,
+    voltage: Monitor,
+    logs: Logs,
+    latched: bool,
+    power_good: bool,
+    /// How many ticks in a row the voltage has been within its critical limits with the channel on.
+    good_count: u16,
+    /// The compares that were made and positive at the previous tick.
+    earlier: Compares,
+}
+
+/// The output pins.
+#[derive(Clone, Copy, PartialEq, Eq)]
+pub struct Outputs {
+    pub fault: Level,
+    pub alert: Level,
+    pub pg: Level,
+}

@@ -1,0 +1,3 @@
+pub mod Pins
+pub mod Rows
+pub mod Settings
