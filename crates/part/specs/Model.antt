@@ -33,7 +33,7 @@ model p =
       latched = p .latched;
       good = p .«power_good»;
       good-count = p .«good_count»;
-      earlier = p .earlier
+      earlier = p .earlier;
     }
 
 abbrev pub powered : Pins → Model
@@ -47,7 +47,7 @@ powered p =
       latched = false;
       good = false;
       good-count = 0;
-      earlier = no-compare
+      earlier = no-compare;
     }
 
 abbrev pub address : Model → ℕ

@@ -1,13 +1,16 @@
 -- What the part shows: its registers and its output pins.
+use mathlib.Core.Path.{_≡_}
 use mathlib.Core.Bool.{Bool, cond, not}
-use Prim.Native.Nat.{ℕ, _+_, _/_, _%_}
+use Prim.Native.Nat.{ℕ, _+_, _/_, _%_, _<_}
 use lib.Dec.{eqb, ltb}
 use lib.ListN.{getD}
 use Rattle.std.specs.declared.option.Option.{Option}
 use Rattle.std.specs.declared.option.Option.the-variants.{Some, None}
 use Rattle.registers.specs.declared.pins.Strap.{Strap}
 use Rattle.registers.specs.declared.pins.Strap.the-variants.{Low, High, Open}
+use Rattle.registers.specs.declared.pins.Pins.{Pins}
 use Rattle.registers.specs.Pins.{high, level-of}
+use Rattle.registers.specs.Settings.{first-byte}
 use Rattle.part.specs.declared.Outputs.{Outputs}
 use Rattle.part.specs.Causes.{weight, trip-byte, under-byte, over-byte, current-byte, tripped, alerted}
 use Rattle.part.specs.Model.{Model}
@@ -59,5 +62,20 @@ outputs m =
     record {
       fault = level-of (not (tripped (m .logs)));
       alert = level-of (not (alerted (m .logs)));
-      pg = level-of (cond (high (m .pins .pol)) (m .good) (not (m .good)))
+      pg = level-of (cond (high (m .pins .pol)) (m .good) (not (m .good)));
     }
+
+-- what power-up leaves to see: the smallest of both signals at full scale, PROT, ON and POL, the settings, and 0 elsewhere
+abbrev pub first-shown : Pins → ℕ → ℕ
+first-shown p n =
+    cond (eqb n 0x08) 0xFF
+    (cond (eqb n 0x09) 0x03
+    (cond (eqb n 0x0C) 0xFF
+    (cond (eqb n 0x0D) 0x03
+    (cond (eqb n 0x32) (prot-bits (p .prot) + weight (high (p .on)) 0x01)
+    (cond (eqb n 0x34) (weight (high (p .pol)) 0x20)
+    (first-byte p n))))))
+
+-- every register of the part is as power-up leaves it
+abbrev pub Powered-up : Model → Pins → Type 0
+Powered-up m p = (n : ℕ) → n < 70 → byte-of m n ≡ first-shown p n

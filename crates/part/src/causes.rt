@@ -1,7 +1,7 @@
 //! What a part logs: trips of the breaker and compares of the samples with the thresholds.
 ghost use mathlib.Core.Path.{_≡_};
 ghost use Prim.Native.Nat.{_≤_};
-ghost use Rattle.part.specs.Causes.{weight, holds, has, nothing, no-compare, trip-byte, under-byte, over-byte, current-byte, tripped, alerted};
+ghost use Rattle.part.specs.Causes.{weight, holds, nothing, no-compare, trip-byte, under-byte, over-byte, current-byte, tripped, alerted};
 
 /// A trip of the breaker.
 #[derive(Clone, Copy, PartialEq, Eq)]
@@ -46,9 +46,13 @@ pub struct Logs {
 }
 
 const FAST: u8 = 0x01;
+
 const SLOW: u8 = 0x10;
+
 const WARNING: u8 = 0x01;
+
 const CRITICAL: u8 = 0x10;
+
 const OVERCURRENT: u8 = 0x01;
 
 /// The bit where the flag is set, else 0.
@@ -61,7 +65,7 @@ pub(crate) fn bit(flag: bool, bit: u8) -> u8
 
 impl Compares {
     /// No compare.
-    pub fn none() -> Compares
+    pub(crate) fn none() -> Compares
         ensures { λ r. ⌜ r ≡ no-compare ⌝ }
     {
         Compares {
@@ -74,7 +78,7 @@ impl Compares {
     }
 
     /// The flag of one compare.
-    pub fn get(&self, compare: Compare) -> bool
+    pub(crate) fn get(&self, compare: Compare) -> bool
         ensures { λ r. ⌜ r ≡ holds compare (now (self .entry)) ⌝ }
     {
         match compare {
@@ -89,7 +93,7 @@ impl Compares {
 
 impl Logs {
     /// Nothing logged.
-    pub fn none() -> Logs
+    pub(crate) fn none() -> Logs
         ensures { λ r. ⌜ r ≡ nothing ⌝ }
     {
         Logs {
@@ -99,56 +103,48 @@ impl Logs {
         }
     }
 
-    /// The cause is logged.
-    pub fn has(&self, cause: Cause) -> bool
-        ensures { λ r. ⌜ r ≡ has cause (now (self .entry)) ⌝ }
-    {
-        match cause {
-            Cause::Trip(Trip::Fast) => self.fast,
-            Cause::Trip(Trip::Slow) => self.slow,
-            Cause::Compare(compare) => self.compares.get(compare),
-        }
-    }
-
     /// The byte of the register that logs trips.
-    pub fn trips(&self) -> u8
+    pub(crate) fn trips(&self) -> u8
         ensures { λ r. ⌜ r ≡ trip-byte (now (self .entry)) ⌝ }
     {
         bit(self.slow, SLOW) + bit(self.fast, FAST)
     }
 
     /// The byte of the register that logs undervoltage.
-    pub fn undervoltage(&self) -> u8
+    pub(crate) fn undervoltage(&self) -> u8
         ensures { λ r. ⌜ r ≡ under-byte (now (self .entry)) ⌝ }
     {
         bit(self.compares.uv2, CRITICAL) + bit(self.compares.uv1, WARNING)
     }
 
     /// The byte of the register that logs overvoltage.
-    pub fn overvoltage(&self) -> u8
+    pub(crate) fn overvoltage(&self) -> u8
         ensures { λ r. ⌜ r ≡ over-byte (now (self .entry)) ⌝ }
     {
         bit(self.compares.ov2, CRITICAL) + bit(self.compares.ov1, WARNING)
     }
 
     /// The byte of the register that logs overcurrent.
-    pub fn overcurrent(&self) -> u8
+    pub(crate) fn overcurrent(&self) -> u8
         ensures { λ r. ⌜ r ≡ current-byte (now (self .entry)) ⌝ }
     {
         bit(self.compares.oi, OVERCURRENT)
     }
 
     /// A trip is logged.
-    pub fn fault(&self) -> bool
+    pub(crate) fn fault(&self) -> bool
         ensures { λ r. ⌜ r ≡ tripped (now (self .entry)) ⌝ }
     {
         self.trips() != 0
     }
 
     /// Anything is logged.
-    pub fn alert(&self) -> bool
+    pub(crate) fn alert(&self) -> bool
         ensures { λ r. ⌜ r ≡ alerted (now (self .entry)) ⌝ }
     {
-        self.trips() != 0 || self.undervoltage() != 0 || self.overvoltage() != 0 || self.overcurrent() != 0
+        self.trips() != 0
+            || self.undervoltage() != 0
+            || self.overvoltage() != 0
+            || self.overcurrent() != 0
     }
 }

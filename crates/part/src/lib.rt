@@ -8,9 +8,9 @@ use causes::Compares;
 use causes::Logs;
 use monitor::Monitor;
 use registers::pins::Level;
+use registers::pins::LevelPartialEq;
 use registers::pins::Pins;
 use registers::settings::Settings;
-use registers::pins::LevelPartialEq;
 
 /// A MAX5978: its pins, its settings, and what it has measured, logged and decided since power-up.
 #[derive(Clone, Copy)]

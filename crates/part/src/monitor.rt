@@ -37,7 +37,7 @@ pub struct Monitor {
 
 impl Extremes {
     /// Reset extremes: full scale for the smallest and 0 for the largest, so that the first counted sample takes both.
-    pub fn reset() -> Extremes
+    pub(crate) fn reset() -> Extremes
         ensures smallest { λ r. ⌜ r .smallest .value ≡ 1023 ⌝ }
         ensures largest { λ r. ⌜ r .largest .value ≡ 0 ⌝ }
     {
@@ -50,7 +50,7 @@ impl Extremes {
 
 impl Monitor {
     /// A signal at power-up.
-    pub fn new() -> Monitor
+    pub(crate) fn new() -> Monitor
         ensures { λ r. ⌜ monitored r ≡ fresh ⌝ }
     {
         Monitor {

@@ -1,6 +1,7 @@
 //! Power-up: a part is made from its pins.
 ghost use mathlib.Core.Path.{_≡_};
 ghost use Rattle.part.specs.Model.{model, powered, address as address-by};
+ghost use Rattle.part.specs.Shown.{Powered-up};
 use crate::Part;
 use crate::causes::Compares;
 use crate::causes::Logs;
@@ -12,7 +13,8 @@ use registers::straps;
 impl Part {
     /// A part as power-up leaves it.
     pub fn power_up(pins: Pins) -> Part
-        ensures { λ r. ⌜ model r ≡ powered pins ⌝ }
+        ensures whole { λ r. ⌜ model r ≡ powered pins ⌝ }
+        ensures registers { λ r. ⌜ Powered-up (model r) pins ⌝ }
     {
         Part {
             pins,

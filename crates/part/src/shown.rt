@@ -11,10 +11,15 @@ use registers::pins::Strap;
 use registers::register;
 
 const ON: u8 = 0x01;
+
 const PROT_HIGH: u8 = 0x40;
+
 const PROT_OPEN: u8 = 0x80;
+
 const POWER_GOOD: u8 = 0x01;
+
 const ALERT: u8 = 0x10;
+
 const POL: u8 = 0x20;
 
 fn prot(strap: Strap) -> u8
@@ -75,7 +80,9 @@ impl Part {
     fn status(&self) -> u8
         ensures { λ r. ⌜ r ≡ status-byte (model (now (self .entry))) ⌝ }
     {
-        bit(self.pins.pol.is_high(), POL) + bit(self.logs.alert(), ALERT) + bit(self.power_good, POWER_GOOD)
+        bit(self.pins.pol.is_high(), POL)
+            + bit(self.logs.alert(), ALERT)
+            + bit(self.power_good, POWER_GOOD)
     }
 
     /// The levels of the output pins.

@@ -151,7 +151,7 @@ pub(crate) const RESET: [u8; COUNT] = [
 ];
 
 /// The entry of a register; 0 past the end.
-pub fn entry(table: &[u8], register: u8) -> u8
+pub(crate) fn entry(table: &[u8], register: u8) -> u8
     ensures { λ r. ⌜ r ≡ getD (now (table .entry)) register 0 ⌝ }
 {
     let index = register as usize;

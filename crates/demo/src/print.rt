@@ -1,0 +1,87 @@
+//! Parts, rings and bytes as a person reads them.
+use crate::names;
+use part::Part;
+use registers::pins::Level;
+use registers::register;
+use samples::ring::Ring;
+use std::io;
+
+fn word(level: Level) -> &'static str {
+    match level {
+        Level::Low => "low",
+        Level::High => "high",
+    }
+}
+
+pub fn outputs(rt: &impl Print, part: &Part) -> io::Result<()> {
+    let outputs = part.outputs();
+    let fault = word(outputs.fault);
+    let alert = word(outputs.alert);
+    let pg = word(outputs.pg);
+    println!(rt, "  FAULT {fault}, ALERT {alert}, PG {pg}")
+}
+
+/// All registers, eight to a row, and then those that are not 0 by name.
+pub fn registers(rt: &impl Print, part: &Part) -> io::Result<()> {
+    println!(rt, "  registers")?;
+    for number in 0..register::COUNT as u8 {
+        if let Some(byte) = part.register(number) {
+            if number % 8 == 0 {
+                print!(rt, "    {number:02X}:")?;
+            }
+            print!(rt, " {byte:02X}")?;
+            if number % 8 == 7 {
+                println!(rt)?;
+            }
+        }
+    }
+    println!(rt)?;
+    for number in 0..register::COUNT as u8 {
+        named(rt, part, number)?;
+    }
+    Ok(())
+}
+
+fn named(rt: &impl Print, part: &Part, number: u8) -> io::Result<()> {
+    match (names::of(number), part.register(number)) {
+        (Some((name, meaning)), Some(byte)) if byte != 0 => {
+            println!(rt, "    {number:02X} {name:<16} {byte:02X}  {meaning}")
+        }
+        _ => Ok(()),
+    }
+}
+
+/// The samples of a ring, the oldest first, ten to a row.
+pub fn content(rt: &impl Print, ring: &Ring) -> io::Result<()> {
+    println!(rt, "  content, oldest first")?;
+    let content = ring.oldest_first();
+    for (k, sample) in content.iter().enumerate() {
+        let value = sample.value();
+        if k % 10 == 0 {
+            print!(rt, "   ")?;
+        }
+        print!(rt, " {value:4}")?;
+        if k % 10 == 9 {
+            println!(rt)?;
+        }
+    }
+    Ok(())
+}
+
+/// Bytes, twenty to a row.
+pub fn bytes(rt: &impl Print, title: &str, bytes: &[u8]) -> io::Result<()> {
+    println!(rt, "  {title}")?;
+    for (k, byte) in bytes.iter().enumerate() {
+        if k % 20 == 0 {
+            print!(rt, "   ")?;
+        }
+        print!(rt, " {byte:02X}")?;
+        if k % 20 == 19 {
+            println!(rt)?;
+        }
+    }
+    if bytes.len() % 20 != 0 {
+        println!(rt)?;
+    }
+    Ok(())
+}
