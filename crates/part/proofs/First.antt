@@ -11,6 +11,7 @@ use Rattle.registers.specs.declared.pins.Level.{Level}
 use Rattle.registers.specs.declared.pins.Level.the-variants.{Low, High}
 use Rattle.registers.specs.declared.pins.Strap.{Strap}
 use Rattle.registers.specs.Rows.{reset-of}
+use Rattle.registers.specs.Questions.{setting}
 use Rattle.registers.specs.Settings.{first-bytes}
 use Rattle.part.specs.Model.{Model, powered}
 use Rattle.part.specs.Shown.{byte-of, first-shown, Powered-up}
@@ -20,7 +21,7 @@ with-pol p pol = record { on = p .on; hwen = p .hwen; pol = pol; prot = p .prot;
 
 -- antt computes both lists of seventy bytes
 all-first : (p : Pins) (pol : Level) → map (byte-of (powered (with-pol p pol))) (counting 0 70) ≡ map (first-shown (with-pol p pol)) (counting 0 70)
-unfolding reset-of first-bytes
+unfolding reset-of first-bytes setting
 all-first p Low = refl
 all-first p High = refl
 

@@ -2,13 +2,15 @@
 use mathlib.Core.Bool.{Bool, false}
 use mathlib.Core.List.{List}
 use Prim.Native.Nat.{ℕ}
+use Rattle.samples.specs.declared.signal.Signal.{Signal}
+use Rattle.samples.specs.declared.signal.Signal.the-variants.{Current, Voltage}
 use Rattle.registers.specs.declared.pins.Pins.{Pins}
 use Rattle.registers.specs.Pins.{address-of}
 use Rattle.registers.specs.Settings.{first-bytes}
 use Rattle.part.specs.declared.Part.{Part}
-use Rattle.part.specs.declared.causes.Logs.{Logs}
-use Rattle.part.specs.declared.causes.Compares.{Compares}
-use Rattle.part.specs.Causes.{nothing, no-compare}
+use Rattle.registers.specs.declared.causes.Logs.{Logs}
+use Rattle.registers.specs.declared.causes.Compares.{Compares}
+use Rattle.registers.specs.Causes.{nothing, no-compare}
 use Rattle.part.specs.Monitors.{Monitored, monitored, fresh}
 
 pub record Model : Type 0 where
@@ -52,3 +54,13 @@ powered p =
 
 abbrev pub address : Model → ℕ
 address m = address-of (m .pins .a1) (m .pins .a0)
+
+-- what the part keeps of a signal
+abbrev pub monitor : Signal → Model → Monitored
+monitor Current m = m .current
+monitor Voltage m = m .voltage
+
+-- the sample of a signal, of a current and a voltage
+abbrev pub sample : Signal → ℕ → ℕ → ℕ
+sample Current i v = i
+sample Voltage i v = v

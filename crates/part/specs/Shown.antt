@@ -3,16 +3,16 @@ use mathlib.Core.Path.{_≡_}
 use mathlib.Core.Bool.{Bool, cond, not}
 use Prim.Native.Nat.{ℕ, _+_, _/_, _%_, _<_}
 use lib.Dec.{eqb, ltb}
-use lib.ListN.{getD}
 use Rattle.std.specs.declared.option.Option.{Option}
 use Rattle.std.specs.declared.option.Option.the-variants.{Some, None}
 use Rattle.registers.specs.declared.pins.Strap.{Strap}
 use Rattle.registers.specs.declared.pins.Strap.the-variants.{Low, High, Open}
 use Rattle.registers.specs.declared.pins.Pins.{Pins}
 use Rattle.registers.specs.Pins.{high, level-of}
+use Rattle.registers.specs.Questions.{setting}
 use Rattle.registers.specs.Settings.{first-byte}
 use Rattle.part.specs.declared.Outputs.{Outputs}
-use Rattle.part.specs.Causes.{weight, trip-byte, under-byte, over-byte, current-byte, tripped, alerted}
+use Rattle.registers.specs.Causes.{weight, trip-byte, under-byte, over-byte, current-byte, tripped, alerted}
 use Rattle.part.specs.Model.{Model}
 
 -- PROT in bits 7 and 6
@@ -50,7 +50,7 @@ byte-of m n =
     (cond (eqb n 0x35) (under-byte (m .logs))
     (cond (eqb n 0x36) (over-byte (m .logs))
     (cond (eqb n 0x37) (current-byte (m .logs))
-    (getD (m .settings) n 0))))))))))))))))))
+    (setting (m .settings) n))))))))))))))))))
 
 -- every number is answered: from 0x46 on there is no register
 abbrev pub register : Model → ℕ → Option ℕ

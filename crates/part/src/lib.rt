@@ -1,12 +1,15 @@
-//! The part itself: what it holds, what power-up leaves in it, and what it shows.
-pub mod causes;
+//! The part itself: what it holds, what power-up leaves in it, what events make of it, and what it shows.
+mod channel;
+pub mod events;
 pub mod monitor;
 mod power;
+pub mod replay;
 mod shown;
+mod tick;
 
-use causes::Compares;
-use causes::Logs;
 use monitor::Monitor;
+use registers::causes::Compares;
+use registers::causes::Logs;
 use registers::pins::Level;
 use registers::pins::LevelPartialEq;
 use registers::pins::Pins;

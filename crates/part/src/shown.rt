@@ -5,7 +5,7 @@ ghost use Rattle.part.specs.Model.{model};
 ghost use Rattle.part.specs.Shown.{prot-bits, input-byte, status-byte, byte-of, register as register-of, outputs as outputs-of};
 use crate::Outputs;
 use crate::Part;
-use crate::causes::bit;
+use registers::causes::bit;
 use registers::pins::Level;
 use registers::pins::Strap;
 use registers::register;

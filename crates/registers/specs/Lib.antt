@@ -1,3 +1,5 @@
+pub mod Causes
 pub mod Pins
 pub mod Rows
 pub mod Settings
+pub mod Questions

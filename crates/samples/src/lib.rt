@@ -2,3 +2,4 @@
 pub mod place;
 pub mod ring;
 pub mod sample;
+pub mod signal;

@@ -1,7 +1,7 @@
 //! What a part logs: trips of the breaker and compares of the samples with the thresholds.
 ghost use mathlib.Core.Path.{_≡_};
 ghost use Prim.Native.Nat.{_≤_};
-ghost use Rattle.part.specs.Causes.{weight, holds, nothing, no-compare, trip-byte, under-byte, over-byte, current-byte, tripped, alerted};
+ghost use Rattle.registers.specs.Causes.{weight, holds, nothing, no-compare, trip-byte, under-byte, over-byte, current-byte, tripped, alerted};
 
 /// A trip of the breaker.
 #[derive(Clone, Copy, PartialEq, Eq)]
@@ -30,19 +30,19 @@ pub enum Cause {
 /// One flag for each compare.
 #[derive(Clone, Copy)]
 pub struct Compares {
-    pub(crate) uv1: bool,
-    pub(crate) uv2: bool,
-    pub(crate) ov1: bool,
-    pub(crate) ov2: bool,
-    pub(crate) oi: bool,
+    pub uv1: bool,
+    pub uv2: bool,
+    pub ov1: bool,
+    pub ov2: bool,
+    pub oi: bool,
 }
 
 /// One flag for each cause: logged and not cleared since.
 #[derive(Clone, Copy)]
 pub struct Logs {
-    pub(crate) fast: bool,
-    pub(crate) slow: bool,
-    pub(crate) compares: Compares,
+    pub fast: bool,
+    pub slow: bool,
+    pub compares: Compares,
 }
 
 const FAST: u8 = 0x01;
@@ -56,7 +56,7 @@ const CRITICAL: u8 = 0x10;
 const OVERCURRENT: u8 = 0x01;
 
 /// The bit where the flag is set, else 0.
-pub(crate) fn bit(flag: bool, bit: u8) -> u8
+pub fn bit(flag: bool, bit: u8) -> u8
     ensures value { λ r. ⌜ r ≡ weight flag bit ⌝ }
     ensures bound { λ r. ⌜ r ≤ bit ⌝ }
 {
@@ -65,7 +65,7 @@ pub(crate) fn bit(flag: bool, bit: u8) -> u8
 
 impl Compares {
     /// No compare.
-    pub(crate) fn none() -> Compares
+    pub fn none() -> Compares
         ensures { λ r. ⌜ r ≡ no-compare ⌝ }
     {
         Compares {
@@ -78,7 +78,7 @@ impl Compares {
     }
 
     /// The flag of one compare.
-    pub(crate) fn get(&self, compare: Compare) -> bool
+    pub fn get(&self, compare: Compare) -> bool
         ensures { λ r. ⌜ r ≡ holds compare (now (self .entry)) ⌝ }
     {
         match compare {
@@ -93,7 +93,7 @@ impl Compares {
 
 impl Logs {
     /// Nothing logged.
-    pub(crate) fn none() -> Logs
+    pub fn none() -> Logs
         ensures { λ r. ⌜ r ≡ nothing ⌝ }
     {
         Logs {
@@ -104,42 +104,42 @@ impl Logs {
     }
 
     /// The byte of the register that logs trips.
-    pub(crate) fn trips(&self) -> u8
+    pub fn trips(&self) -> u8
         ensures { λ r. ⌜ r ≡ trip-byte (now (self .entry)) ⌝ }
     {
         bit(self.slow, SLOW) + bit(self.fast, FAST)
     }
 
     /// The byte of the register that logs undervoltage.
-    pub(crate) fn undervoltage(&self) -> u8
+    pub fn undervoltage(&self) -> u8
         ensures { λ r. ⌜ r ≡ under-byte (now (self .entry)) ⌝ }
     {
         bit(self.compares.uv2, CRITICAL) + bit(self.compares.uv1, WARNING)
     }
 
     /// The byte of the register that logs overvoltage.
-    pub(crate) fn overvoltage(&self) -> u8
+    pub fn overvoltage(&self) -> u8
         ensures { λ r. ⌜ r ≡ over-byte (now (self .entry)) ⌝ }
     {
         bit(self.compares.ov2, CRITICAL) + bit(self.compares.ov1, WARNING)
     }
 
     /// The byte of the register that logs overcurrent.
-    pub(crate) fn overcurrent(&self) -> u8
+    pub fn overcurrent(&self) -> u8
         ensures { λ r. ⌜ r ≡ current-byte (now (self .entry)) ⌝ }
     {
         bit(self.compares.oi, OVERCURRENT)
     }
 
     /// A trip is logged.
-    pub(crate) fn fault(&self) -> bool
+    pub fn fault(&self) -> bool
         ensures { λ r. ⌜ r ≡ tripped (now (self .entry)) ⌝ }
     {
         self.trips() != 0
     }
 
     /// Anything is logged.
-    pub(crate) fn alert(&self) -> bool
+    pub fn alert(&self) -> bool
         ensures { λ r. ⌜ r ≡ alerted (now (self .entry)) ⌝ }
     {
         self.trips() != 0

@@ -2,14 +2,14 @@
 use mathlib.Core.Bool.{Bool, true, false, cond, not, _||_}
 use Prim.Native.Nat.{ℕ, _+_}
 use lib.Dec.{eqb}
-use Rattle.part.specs.declared.causes.Trip.{Trip}
-use Rattle.part.specs.declared.causes.Trip.the-variants.{Fast, Slow}
-use Rattle.part.specs.declared.causes.Compare.{Compare}
-use Rattle.part.specs.declared.causes.Compare.the-variants.{Uv1, Uv2, Ov1, Ov2, Oi}
-use Rattle.part.specs.declared.causes.Cause.{Cause}
-use Rattle.part.specs.declared.causes.Cause.the-variants as cause
-use Rattle.part.specs.declared.causes.Compares.{Compares}
-use Rattle.part.specs.declared.causes.Logs.{Logs}
+use Rattle.registers.specs.declared.causes.Trip.{Trip}
+use Rattle.registers.specs.declared.causes.Trip.the-variants.{Fast, Slow}
+use Rattle.registers.specs.declared.causes.Compare.{Compare}
+use Rattle.registers.specs.declared.causes.Compare.the-variants.{Uv1, Uv2, Ov1, Ov2, Oi}
+use Rattle.registers.specs.declared.causes.Cause.{Cause}
+use Rattle.registers.specs.declared.causes.Cause.the-variants as cause
+use Rattle.registers.specs.declared.causes.Compares.{Compares}
+use Rattle.registers.specs.declared.causes.Logs.{Logs}
 
 abbrev pub holds : Compare → Compares → Bool
 holds Uv1 f = f .uv1

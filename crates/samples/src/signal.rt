@@ -1,0 +1,7 @@
+//! The two signals that are sampled.
+
+#[derive(Clone, Copy, PartialEq, Eq)]
+pub enum Signal {
+    Current,
+    Voltage,
+}
