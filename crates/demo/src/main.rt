@@ -1,11 +1,15 @@
 //! A short tour of the library, printed stage by stage.
 mod names;
 mod print;
+mod story;
 
 use part::Part;
+use part::replay::Event;
+use registers::causes::Trip;
 use registers::pins::Level;
 use registers::pins::Pins;
 use registers::pins::Strap;
+use registers::register;
 use samples::ring::Resolution;
 use samples::ring::Ring;
 use samples::sample::Sample;
@@ -24,13 +28,12 @@ fn payload_bay() -> Pins {
     }
 }
 
-fn power_up(rt: &impl Print) -> io::Result<()> {
-    let part = Part::power_up(payload_bay());
+fn power_up(rt: &impl Print, part: &Part) -> io::Result<()> {
     println!(rt, "Power-up")?;
     let address = part.address();
     println!(rt, "  address 0x{address:02X}")?;
-    print::outputs(rt, &part)?;
-    print::registers(rt, &part)
+    print::outputs(rt, part)?;
+    print::registers(rt, part)
 }
 
 /// The samples 1 to 51.
@@ -57,7 +60,31 @@ fn ring(rt: &impl Print) -> io::Result<()> {
     print::bytes(rt, "readout, high bytes", &short)
 }
 
+/// A run of events, played from power-up.
+fn replay(rt: &impl Print) -> io::Result<()> {
+    let events = [
+        Event::Write {
+            number: register::CBUF_DLY_STOP,
+            byte: 2,
+        },
+        Event::Tick {
+            current: Sample::zero(),
+            voltage: Sample::full_scale(),
+        },
+        Event::Trip(Trip::Slow),
+    ];
+    let part = Part::replay(payload_bay(), &events);
+    println!(
+        rt,
+        "A stop delay, a tick and a slow trip, played from power-up"
+    )?;
+    print::status(rt, &part)
+}
+
 fn main(rt: LibcRuntime) -> io::Result<()> {
-    power_up(&rt)?;
-    ring(&rt)
+    let mut part = Part::power_up(payload_bay());
+    power_up(&rt, &part)?;
+    story::tell(&rt, &mut part)?;
+    ring(&rt)?;
+    replay(&rt)
 }

@@ -21,6 +21,15 @@ pub fn outputs(rt: &impl Print, part: &Part) -> io::Result<()> {
     println!(rt, "  FAULT {fault}, ALERT {alert}, PG {pg}")
 }
 
+/// The output pins and the status and log registers.
+pub fn status(rt: &impl Print, part: &Part) -> io::Result<()> {
+    outputs(rt, part)?;
+    for number in register::STATUS0..=register::FAULT2 {
+        named(rt, part, number)?;
+    }
+    Ok(())
+}
+
 /// All registers, eight to a row, and then those that are not 0 by name.
 pub fn registers(rt: &impl Print, part: &Part) -> io::Result<()> {
     println!(rt, "  registers")?;

@@ -14,7 +14,7 @@ use Rattle.registers.specs.Rows.{reset-of}
 use Rattle.registers.specs.Questions.{setting}
 use Rattle.registers.specs.Settings.{first-bytes}
 use Rattle.part.specs.Model.{Model, powered}
-use Rattle.part.specs.Shown.{byte-of, first-shown, Powered-up}
+use Rattle.part.specs.Shown.{shown, byte-of, first-shown, Powered-up}
 
 abbrev with-pol : Pins → Level → Pins
 with-pol p pol = record { on = p .on; hwen = p .hwen; pol = pol; prot = p .prot; irng = p .irng; a1 = p .a1; a0 = p .a0 }
@@ -26,6 +26,7 @@ all-first p Low = refl
 all-first p High = refl
 
 pub powered-up : (m : Model) (p : Pins) → m ≡ powered p → Powered-up m p
+unfolding shown
 powered-up m p is n low =
     let at : Powered-up (powered p) p = λ k h. sym (getD-map-counting (byte-of (powered p)) 0 70 k k 0 h (omega arith)) ∙ ap (λ bytes. getD bytes k 0) (all-first p (p .pol)) ∙ getD-map-counting (first-shown p) 0 70 k k 0 h (omega arith) in
     subst⁻¹ (λ (x : Model). Powered-up x p) is at n low

@@ -41,7 +41,6 @@ module _ (e : Monitored → ℕ) (f : List ℕ → ℕ) (op : ℕ → ℕ → �
     (on-sampled : (m : Model) (s : Signal) (x : ℕ) (t : Monitored) → e (sampled m s x t) ≡ cond (counts m s) (op x (e t)) (e t))
     (on-state : (t : Monitored) (g : RingState) → e (with-state t g) ≡ e t)
     (more : (x : ℕ) (xs : List ℕ) → f (x ∷ xs) ≡ op x (f xs)) where
-
   reset-figure : (F : Bool) (t : ℕ) (xs : List ℕ) → t ≡ f xs → cond F (f []) t ≡ f (cond F [] xs)
   reset-figure true t xs is = refl
   reset-figure false t xs is = is
@@ -64,10 +63,10 @@ module _ (e : Monitored → ℕ) (f : List ℕ → ℕ) (op : ℕ → ℕ → �
 
   figure-step : (s : Signal) (b : Model) (ev : Event) (xs : List ℕ) → e (monitor s b) ≡ f xs → (forgets (channel b) b s ≡ true → xs ≡ [])
       → e (monitor-next s b ev) ≡ f (cond (forgets (channel b) (step b ev) s) [] (counted-with b s ev xs))
-  unfolding channel majority
+  unfolding step channel majority
   figure-step s b (tick i v) xs is none =
       settles s b (measured b i v) (sampled b s (sample s i v) (monitor s b)) (counted-with b s (tick i v) xs)
-        (on-sampled b s (sample s i v) (monitor s b) ∙ counted-figure (counts b s) (sample s i v) (e (monitor s b)) xs is)
+      (on-sampled b s (sample s i v) (monitor s b) ∙ counted-figure (counts b s) (sample s i v) (e (monitor s b)) xs is)
   figure-step s b (pin w l) xs is none = settles s b (pinned b w l) (monitor s b) xs is
   figure-step s b (trip t) xs is none = settles s b (tripped b t) (monitor s b) xs is
   figure-step s b (write n byte) xs is none = settles s b (overwritten b n byte) (restarted b n byte s (monitor s b)) xs (on-state (monitor s b) _ ∙ is)
@@ -99,6 +98,7 @@ module _ (q : Cause) (b : Model) (L : Bool) (is : has q (b .logs) ≡ L) where
   wiped false x = refl
 
   log-step : (ev : Event) → has q (step b ev .logs) ≡ cond (wipes ev q || falls (majority b) (step b ev)) false (cond (logs-by b ev q) true L)
+  unfolding step
   log-step (tick i v) = settled-log (measured b i v) _ (has-logs (λ z. cond (logs-at b i v z) true (has z (b .logs))) q ∙ ap (λ y. cond (logs-at b i v q) true y) is)
   log-step (pin w l) = settled-log (pinned b w l) L is
   log-step (trip t) = settled-log (tripped b t) _ (has-logs (λ z. cond (trips b t z) true (has z (b .logs))) q ∙ ap (λ y. cond (trips b t q) true y) is)
@@ -172,6 +172,7 @@ unfolding channel majority
 blocked-sound m s sound = record { good-on = sound .good-on; latched-on = sound .latched-on }
 
 sound-step : (m : Model) → Sound m → (e : Event) → Sound (step m e)
+unfolding step
 sound-step m sound (tick i v) = settled-sound m (measured m i v) (good-found-on m sound i v) (latched-found-on m sound i v)
 sound-step m sound (pin w l) = settled-sound m (pinned m w l) (sound .good-on) (sound .latched-on)
 sound-step m sound (trip t) = settled-sound m (tripped m t) (sound .good-on) (tripped-found-on m sound t)
@@ -187,7 +188,7 @@ module _ (p : Pins) where
   none-counted s [] e = refl
   none-counted s (ev ∷ es) e =
       cond-true (forgets (channel (after p es)) (after p (ev ∷ es)) s) [] (counted-with (after p es) s ev (counted p s es))
-        (still-forgets (channel (after p es)) (after p (ev ∷ es)) s e)
+      (still-forgets (channel (after p es)) (after p (ev ∷ es)) s e)
 
   at-power-up : (f : Monitored → ℕ) (n : ℕ) → f (powered p .current) ≡ n → f (powered p .voltage) ≡ n → (s : Signal) → f (monitor s (powered p)) ≡ n
   at-power-up f n c v Current = c
@@ -224,7 +225,7 @@ module _ (p : Pins) where
   seventy (e ∷ es) = settings-length (after p es) e ∙ seventy es
 
   pub stands-setting : (n : ℕ) → n < 70 → (es : List Event) → setting (after p es .settings) n ≡ setting-of p n es
-  unfolding first-bytes setting
+  unfolding first-bytes setting step
   stands-setting n h [] = getD-map-counting (first-byte p) 0 70 n n 0 h (omega arith)
   stands-setting n h (tick i v ∷ es) = stands-setting n h es
   stands-setting n h (pin w l ∷ es) = stands-setting n h es
@@ -239,6 +240,7 @@ module _ (p : Pins) where
   pinned-level Pol Pol l m old e = refl
 
   pub stands-level : (w : Pin) (es : List Event) → level w (after p es .pins) ≡ level-of p w es
+  unfolding step
   stands-level w [] = refl
   stands-level w (tick i v ∷ es) = stands-level w es
   stands-level w (pin u l ∷ es) = pinned-level w u l (after p es) (level-of p w es) (stands-level w es)

@@ -38,6 +38,7 @@ monitor-next s m (write n byte) = settled-signal (channel m) (overwritten m n by
 monitor-next s m (block r) = halted r s (monitor s m)
 
 pub monitor-step : (s : Signal) (m : Model) (e : Event) → monitor s (step m e) ≡ monitor-next s m e
+unfolding step
 monitor-step Current m (tick i v) = refl
 monitor-step Current m (pin w l) = refl
 monitor-step Current m (trip t) = refl
@@ -81,6 +82,7 @@ setting-written bytes k n byte old l h is =
     ]
 
 pub settings-length : (m : Model) (e : Event) → length (step m e .settings) ≡ length (m .settings)
+unfolding step
 settings-length m (tick i v) = refl
 settings-length m (pin w l) = refl
 settings-length m (trip t) = refl

@@ -53,7 +53,7 @@ settled-monitor forget on off delay t =
       smallest = cond forget 1023 (t .smallest);
       largest = cond forget 0 (t .largest);
       ring = t .ring;
-      state = cond on Running (cond off (slowed delay (t .state)) (t .state))
+      state = cond on Running (cond off (slowed delay (t .state)) (t .state));
     }
 
 abbrev pub settled-signal : Bool → Model → Signal → Monitored → Monitored
@@ -71,7 +71,7 @@ settled-by was-majority was-channel m =
       latched = cond (falls was-majority m) false (m .latched);
       good = cond (turns-off was-channel m) false (m .good);
       good-count = cond (turns-off was-channel m) 0 (m .good-count);
-      earlier = m .earlier
+      earlier = m .earlier;
     }
 
 -- what an event that has made m of b leaves in the end

@@ -34,8 +34,14 @@ abbrev pub pinned : Model → Pin → Level → Model
 pinned m w l =
     record {
       pins = with-pin w l (m .pins);
-      settings = m .settings; current = m .current; voltage = m .voltage; logs = m .logs; latched = m .latched;
-      good = m .good; good-count = m .good-count; earlier = m .earlier
+      settings = m .settings;
+      current = m .current;
+      voltage = m .voltage;
+      logs = m .logs;
+      latched = m .latched;
+      good = m .good;
+      good-count = m .good-count;
+      earlier = m .earlier;
     }
 
 -- ---- the breaker trips
@@ -55,10 +61,15 @@ trips m t (cause.Compare q) = false
 abbrev pub tripped : Model → Trip → Model
 tripped m t =
     record {
-      pins = m .pins; settings = m .settings; current = m .current; voltage = m .voltage;
+      pins = m .pins;
+      settings = m .settings;
+      current = m .current;
+      voltage = m .voltage;
       logs = logs (λ q. cond (trips m t q) true (has q (m .logs)));
       latched = cond (channel m) true (m .latched);
-      good = m .good; good-count = m .good-count; earlier = m .earlier
+      good = m .good;
+      good-count = m .good-count;
+      earlier = m .earlier;
     }
 
 -- ---- a byte is written to a register
@@ -92,7 +103,10 @@ overwritten m n byte =
       current = restarted m n byte Current (m .current);
       voltage = restarted m n byte Voltage (m .voltage);
       logs = logs (λ q. cond (cleared-by n q) false (has q (m .logs)));
-      latched = m .latched; good = m .good; good-count = m .good-count; earlier = m .earlier
+      latched = m .latched;
+      good = m .good;
+      good-count = m .good-count;
+      earlier = m .earlier;
     }
 
 -- ---- a ring is read out, which stops that ring only
@@ -109,10 +123,15 @@ halted read s t = with-state t (cond (same-signal read s) Stopped (t .state))
 abbrev pub blocked : Model → Signal → Model
 blocked m read =
     record {
-      pins = m .pins; settings = m .settings;
+      pins = m .pins;
+      settings = m .settings;
       current = halted read Current (m .current);
       voltage = halted read Voltage (m .voltage);
-      logs = m .logs; latched = m .latched; good = m .good; good-count = m .good-count; earlier = m .earlier
+      logs = m .logs;
+      latched = m .latched;
+      good = m .good;
+      good-count = m .good-count;
+      earlier = m .earlier;
     }
 
 -- ---- all events
@@ -124,7 +143,8 @@ pub data Event : Type 0 where
   write : ℕ → ℕ → Event
   block : Signal → Event
 
-abbrev pub step : Model → Event → Model
+-- shut, so that what stands above a part goes by the laws of Runs
+unfoldable pub step : Model → Event → Model
 step m (tick i v) = settled m (measured m i v)
 step m (pin w l) = settled m (pinned m w l)
 step m (trip t) = settled m (tripped m t)

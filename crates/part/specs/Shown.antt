@@ -52,12 +52,15 @@ byte-of m n =
     (cond (eqb n 0x37) (current-byte (m .logs))
     (setting (m .settings) n))))))))))))))))))
 
+unfoldable pub shown : Model → ℕ → ℕ
+shown m n = byte-of m n
+
 -- every number is answered: from 0x46 on there is no register
 abbrev pub register : Model → ℕ → Option ℕ
-register m n = cond (ltb n 70) (Some (byte-of m n)) None
+register m n = cond (ltb n 70) (Some (shown m n)) None
 
 -- FAULT and ALERT are low when asserted; PG equals power-good when POL is 1, else its opposite
-abbrev pub outputs : Model → Outputs
+unfoldable pub outputs : Model → Outputs
 outputs m =
     record {
       fault = level-of (not (tripped (m .logs)));
@@ -78,4 +81,4 @@ first-shown p n =
 
 -- every register of the part is as power-up leaves it
 abbrev pub Powered-up : Model → Pins → Type 0
-Powered-up m p = (n : ℕ) → n < 70 → byte-of m n ≡ first-shown p n
+Powered-up m p = (n : ℕ) → n < 70 → shown m n ≡ first-shown p n

@@ -54,7 +54,7 @@ sampled-monitor counted stored x t =
       smallest = cond counted (lesser x (t .smallest)) (t .smallest);
       largest = cond counted (greater x (t .largest)) (t .largest);
       ring = cond stored (pushed (t .ring) x) (t .ring);
-      state = one-less (t .state)
+      state = one-less (t .state);
     }
 
 abbrev pub sampled : Model → Signal → ℕ → Monitored → Monitored
@@ -117,5 +117,5 @@ measured m i v =
       latched = cond (critical m i v && latches (m .pins .prot)) true (m .latched);
       good = next-good m i v;
       good-count = next-count m i v;
-      earlier = compares (positive m i v)
+      earlier = compares (positive m i v);
     }

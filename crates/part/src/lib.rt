@@ -16,7 +16,7 @@ use registers::pins::Pins;
 use registers::settings::Settings;
 
 /// A MAX5978: its pins, its settings, and what it has measured, logged and decided since power-up.
-#[derive(Clone, Copy)]
+#[derive(Drop)]
 pub struct Part {
     pins: Pins,
     settings: Settings,

@@ -24,7 +24,7 @@ pub struct Extremes {
 }
 
 /// One signal.
-#[derive(Clone, Copy)]
+#[derive(Drop)]
 pub struct Monitor {
     pub(crate) latest: Sample,
     pub(crate) extremes: Extremes,

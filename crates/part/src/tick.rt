@@ -75,7 +75,8 @@ impl Part {
     fn acts(&self, compare: Compare, current: Sample, voltage: Sample) -> bool
         ensures { λ r. ⌜ r ≡ acts-of (model (now (self .entry))) (current .value) (voltage .value) compare ⌝ }
     {
-        self.positive(compare, current, voltage) && (!self.settings.deglitches(compare) || self.earlier.get(compare))
+        self.positive(compare, current, voltage)
+            && (!self.settings.deglitches(compare) || self.earlier.get(compare))
     }
 
     fn critical(&self, current: Sample, voltage: Sample) -> bool
@@ -136,7 +137,8 @@ impl Part {
         ensures { λ r. ⌜ r ≡ next-good (model (now (self .entry))) (current .value) (voltage .value) ⌝ }
     {
         let long_enough = self.settings.good_delay() <= self.next_count(current, voltage);
-        long_enough || self.power_good && !(self.critical(current, voltage) && guards(self.pins.prot))
+        long_enough
+            || self.power_good && !(self.critical(current, voltage) && guards(self.pins.prot))
     }
 }
 

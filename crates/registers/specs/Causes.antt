@@ -62,4 +62,4 @@ tripped l = not (eqb (trip-byte l) 0)
 
 -- ALERT is asserted: one of the four logs is not 0
 abbrev pub alerted : Logs → Bool
-alerted l = not (eqb (trip-byte l) 0) || not (eqb (under-byte l) 0) || not (eqb (over-byte l) 0) || not (eqb (current-byte l) 0)
+alerted l = tripped l || not (eqb (under-byte l) 0) || not (eqb (over-byte l) 0) || not (eqb (current-byte l) 0)

@@ -142,7 +142,7 @@ impl Logs {
     pub fn alert(&self) -> bool
         ensures { λ r. ⌜ r ≡ alerted (now (self .entry)) ⌝ }
     {
-        self.trips() != 0
+        self.fault()
             || self.undervoltage() != 0
             || self.overvoltage() != 0
             || self.overcurrent() != 0

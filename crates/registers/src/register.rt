@@ -95,3 +95,8 @@ pub const LED_STATE: u8 = 0x45;
 
 /// How many registers there are: their numbers run from 0 to one below.
 pub const COUNT: usize = 70;
+
+/// Where the voltage ring is read out: a base past the last register.
+pub const CBUF_BA_V: u8 = 0x46;
+/// Where the current ring is read out.
+pub const CBUF_BA_I: u8 = 0x47;

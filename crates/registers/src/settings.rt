@@ -13,17 +13,23 @@ use samples::ring::Resolution;
 use samples::signal::Signal;
 
 /// One byte for each register; a register that is no setting holds 0.
-#[derive(Clone, Copy)]
+#[derive(Drop)]
 pub struct Settings {
     bytes: [u8; register::COUNT],
 }
 
 const RANGE_25_MV: u8 = 0b10;
+
 const RANGE_50_MV: u8 = 0b01;
+
 const RANGE_100_MV: u8 = 0b00;
+
 const EN1: u8 = 0b01;
+
 const EN2: u8 = 0b10;
+
 const DEGLITCH_WARNING: u8 = 0b01;
+
 const DEGLITCH_CRITICAL: u8 = 0b10;
 
 /// A ring counts down from 50 at most.
@@ -189,7 +195,11 @@ impl Settings {
         ensures { λ r. ⌜ r ≡ stop-delay (now (self .entry) .bytes) ⌝ }
     {
         let delay = self.byte(register::CBUF_DLY_STOP);
-        if delay > LONGEST_DELAY { LONGEST_DELAY } else { delay }
+        if delay > LONGEST_DELAY {
+            LONGEST_DELAY
+        } else {
+            delay
+        }
     }
 
     /// How many good ticks in a row make power-good.
