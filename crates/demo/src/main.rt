@@ -1,6 +1,7 @@
 //! A short tour of the library, printed stage by stage.
 mod names;
 mod print;
+mod stop;
 mod story;
 
 use part::Part;
@@ -10,10 +11,16 @@ use registers::pins::Level;
 use registers::pins::Pins;
 use registers::pins::Strap;
 use registers::register;
+use rig::Direct;
+use rig::DirectRig;
+use rig::Patience;
+use rig::PatienceRig;
 use samples::ring::Resolution;
 use samples::ring::Ring;
 use samples::sample::Sample;
 use std::io;
+use stop::Stop;
+use stop::StopFromIo;
 
 /// The payload bay's part: enabled by its pins, and at address 0x3A.
 fn payload_bay() -> Pins {
@@ -28,12 +35,15 @@ fn payload_bay() -> Pins {
     }
 }
 
-fn power_up(rt: &impl Print, part: &Part) -> io::Result<()> {
-    println!(rt, "Power-up")?;
-    let address = part.address();
-    println!(rt, "  address 0x{address:02X}")?;
-    print::outputs(rt, part)?;
-    print::registers(rt, part)
+/// The story over a direct rig, and over patience 2 on one that keeps silent seven times.
+fn rigs(rt: &impl Print, address: u8) -> Result<(), Stop> {
+    println!(rt, "Over a direct rig")?;
+    let mut direct = Direct::new(payload_bay(), 0);
+    story::tell(rt, &mut direct, address)?;
+    println!(rt, "Over patience 2 on a rig that owes seven silences")?;
+    let mut patient = Patience::new(Direct::new(payload_bay(), 7), 2);
+    story::wait(rt, &mut patient, address)?;
+    story::tell(rt, &mut patient, address)
 }
 
 /// The samples 1 to 51.
@@ -78,13 +88,16 @@ fn replay(rt: &impl Print) -> io::Result<()> {
         rt,
         "A stop delay, a tick and a slow trip, played from power-up"
     )?;
-    print::status(rt, &part)
+    print::outputs(rt, part.outputs())
 }
 
-fn main(rt: LibcRuntime) -> io::Result<()> {
-    let mut part = Part::power_up(payload_bay());
-    power_up(&rt, &part)?;
-    story::tell(&rt, &mut part)?;
+fn main(rt: LibcRuntime) -> Result<(), Stop> {
+    let part = Part::power_up(payload_bay());
+    let address = part.address();
+    println!(rt, "A part powers up at address 0x{address:02X}")?;
+    print::outputs(&rt, part.outputs())?;
+    rigs(&rt, address)?;
     ring(&rt)?;
-    replay(&rt)
+    replay(&rt)?;
+    Ok(())
 }

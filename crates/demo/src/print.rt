@@ -1,10 +1,15 @@
-//! Parts, rings and bytes as a person reads them.
+//! Registers, pins, rings and bytes as a person reads them.
 use crate::names;
-use part::Part;
+use crate::stop::Stop;
+use crate::stop::StopFromIo;
+use crate::stop::StopFromRefusal;
+use part::Outputs;
 use registers::pins::Level;
 use registers::register;
+use rig::Rig;
 use samples::ring::Ring;
 use std::io;
+use rig::LentRig;
 
 fn word(level: Level) -> &'static str {
     match level {
@@ -13,47 +18,49 @@ fn word(level: Level) -> &'static str {
     }
 }
 
-pub fn outputs(rt: &impl Print, part: &Part) -> io::Result<()> {
-    let outputs = part.outputs();
+pub fn outputs(rt: &impl Print, outputs: Outputs) -> io::Result<()> {
     let fault = word(outputs.fault);
     let alert = word(outputs.alert);
     let pg = word(outputs.pg);
     println!(rt, "  FAULT {fault}, ALERT {alert}, PG {pg}")
 }
 
-/// The output pins and the status and log registers.
-pub fn status(rt: &impl Print, part: &Part) -> io::Result<()> {
-    outputs(rt, part)?;
+/// The output pins and the status and log registers that are not 0.
+pub fn status<R: Rig>(rt: &impl Print, rig: &mut R, address: u8) -> Result<(), Stop> {
+    outputs(rt, rig.outputs())?;
     for number in register::STATUS0..=register::FAULT2 {
-        named(rt, part, number)?;
+        named(rt, number, rig.get(address, number)?)?;
     }
     Ok(())
 }
 
 /// All registers, eight to a row, and then those that are not 0 by name.
-pub fn registers(rt: &impl Print, part: &Part) -> io::Result<()> {
+pub fn registers<R: Rig>(rt: &impl Print, rig: &mut R, address: u8) -> Result<(), Stop> {
     println!(rt, "  registers")?;
     for number in 0..register::COUNT as u8 {
-        if let Some(byte) = part.register(number) {
-            if number % 8 == 0 {
-                print!(rt, "    {number:02X}:")?;
-            }
-            print!(rt, " {byte:02X}")?;
-            if number % 8 == 7 {
-                println!(rt)?;
-            }
-        }
+        cell(rt, number, rig.get(address, number)?)?;
     }
     println!(rt)?;
     for number in 0..register::COUNT as u8 {
-        named(rt, part, number)?;
+        named(rt, number, rig.get(address, number)?)?;
     }
     Ok(())
 }
 
-fn named(rt: &impl Print, part: &Part, number: u8) -> io::Result<()> {
-    match (names::of(number), part.register(number)) {
-        (Some((name, meaning)), Some(byte)) if byte != 0 => {
+fn cell(rt: &impl Print, number: u8, byte: u8) -> io::Result<()> {
+    if number % 8 == 0 {
+        print!(rt, "    {number:02X}:")?;
+    }
+    print!(rt, " {byte:02X}")?;
+    if number % 8 == 7 {
+        println!(rt)?;
+    }
+    Ok(())
+}
+
+fn named(rt: &impl Print, number: u8, byte: u8) -> io::Result<()> {
+    match names::of(number) {
+        Some((name, meaning)) if byte != 0 => {
             println!(rt, "    {number:02X} {name:<16} {byte:02X}  {meaning}")
         }
         _ => Ok(()),

@@ -1,16 +1,16 @@
 //! The direct rig: a part with nothing between it and the caller.
 ghost use mathlib.Core.Path.{_≡_};
 ghost use mathlib.Core.Bool.{cond};
-ghost use Rattle.std.specs.declared.option.Option.the-variants.{Some, None};
 ghost use lib.Dec.{eqb};
 ghost use Prim.Native.Nat.{_-_};
 ghost use Rattle.part.specs.Model.{model, powered, address as address-of};
 ghost use Rattle.rig.specs.Direct.{direct-meaning};
-ghost use Rattle.rig.specs.Meaning.{ring-base, ring-at, done, bus-answer};
+ghost use Rattle.rig.specs.Meaning.{done, bus-answer};
 ghost use Rattle.rig.specs.Refusals.{told};
 use crate::LONGEST_BLOCK;
 use crate::Refusal;
 use crate::Rig;
+use crate::ring_at;
 use part::Outputs;
 use part::Part;
 use part::events::Pin;
@@ -26,17 +26,6 @@ use samples::signal::Signal;
 pub struct Direct {
     part: Part,
     owed: u8,
-}
-
-/// The ring that a block reads at a base.
-pub fn ring_at(base: u8) -> Option<Signal>
-    ensures { λ r. ⌜ r ≡ cond (ring-base base) (Some (ring-at base)) None ⌝ }
-{
-    match base {
-        register::CBUF_BA_V => Some(Signal::Voltage),
-        register::CBUF_BA_I => Some(Signal::Current),
-        _ => None,
-    }
 }
 
 impl Direct {

@@ -1,7 +1,9 @@
 //! Rigs: a part with a way to reach it. Every rig answers the same seven calls by the same meaning.
 ghost use mathlib.Core.Path.{_≡_};
+ghost use mathlib.Core.Bool.{cond};
 ghost use lib.ListN.{length};
-ghost use Rattle.rig.specs.Meaning.{Meaning, Answer, tick as ticks, pin as pins, trip as trips, outputs as output-levels, put as puts, get as gets, block as blocks, done, byte, bytes, levels, next, answer, filled};
+ghost use Rattle.std.specs.declared.option.Option.the-variants.{Some, None};
+ghost use Rattle.rig.specs.Meaning.{Meaning, Answer, tick as ticks, pin as pins, trip as trips, outputs as output-levels, put as puts, get as gets, block as blocks, done, byte, bytes, levels, next, answer, filled, ring-base, ring-at};
 ghost use Rattle.rig.specs.Refusals.{told, number-of};
 
 mod direct;
@@ -17,6 +19,7 @@ pub use patience::Patience;
 pub use patience::PatienceRig;
 use registers::causes::Trip;
 use registers::pins::Level;
+use registers::register;
 use samples::signal::Signal;
 use samples::signal::SignalPartialEq;
 
@@ -44,6 +47,17 @@ impl Refusal {
             Refusal::Register => 3,
             Refusal::Silence => 4,
         }
+    }
+}
+
+/// The ring that a block reads at a base.
+pub fn ring_at(base: u8) -> Option<Signal>
+    ensures { λ r. ⌜ r ≡ cond (ring-base base) (Some (ring-at base)) None ⌝ }
+{
+    match base {
+        register::CBUF_BA_V => Some(Signal::Voltage),
+        register::CBUF_BA_I => Some(Signal::Current),
+        _ => None,
     }
 }
 
