@@ -21,6 +21,8 @@ use samples::sample::Sample;
 use std::io;
 use stop::Stop;
 use stop::StopFromIo;
+use wire::Wire;
+use wire::WireRig;
 
 /// The payload bay's part: enabled by its pins, and at address 0x3A.
 fn payload_bay() -> Pins {
@@ -35,13 +37,16 @@ fn payload_bay() -> Pins {
     }
 }
 
-/// The story over a direct rig, and over patience 2 on one that keeps silent seven times.
+/// The same story over a direct rig, over a wire rig, and over patience 2 on a wire rig that keeps silent seven times.
 fn rigs(rt: &impl Print, address: u8) -> Result<(), Stop> {
     println!(rt, "Over a direct rig")?;
     let mut direct = Direct::new(payload_bay(), 0);
     story::tell(rt, &mut direct, address)?;
-    println!(rt, "Over patience 2 on a rig that owes seven silences")?;
-    let mut patient = Patience::new(Direct::new(payload_bay(), 7), 2);
+    println!(rt, "Over a wire rig")?;
+    let mut wire = Wire::new(payload_bay(), 0);
+    story::tell(rt, &mut wire, address)?;
+    println!(rt, "Over patience 2 on a wire rig that owes seven silences")?;
+    let mut patient = Patience::new(Wire::new(payload_bay(), 7), 2);
     story::wait(rt, &mut patient, address)?;
     story::tell(rt, &mut patient, address)
 }

@@ -6,10 +6,10 @@ use crate::stop::StopFromRefusal;
 use part::Outputs;
 use registers::pins::Level;
 use registers::register;
+use rig::LentRig;
 use rig::Rig;
 use samples::ring::Ring;
 use std::io;
-use rig::LentRig;
 
 fn word(level: Level) -> &'static str {
     match level {

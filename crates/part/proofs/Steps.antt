@@ -136,3 +136,12 @@ has-logs f (cause.Compare Uv2) = refl
 has-logs f (cause.Compare Ov1) = refl
 has-logs f (cause.Compare Ov2) = refl
 has-logs f (cause.Compare Oi) = refl
+
+-- ---- a readout of a ring leaves the settings and what the rings hold
+
+pub block-settings : (m : Model) (r : Signal) → step m (block r) .settings ≡ m .settings
+unfolding step
+block-settings m r = refl
+
+pub block-ring : (m : Model) (r s : Signal) → monitor s (step m (block r)) .ring ≡ monitor s m .ring
+block-ring m r s = ap (λ t. t .ring) (monitor-step s m (block r))

@@ -1,7 +1,7 @@
 //! Events from outside: a pin moves, the breaker trips, a register is written, a ring is read out.
 ghost use mathlib.Core.Path.{_≡_};
 ghost use lib.ListN.{length};
-ghost use Rattle.samples.specs.History.{readout};
+ghost use Rattle.samples.specs.History.{byte-at, readout};
 ghost use Rattle.registers.specs.Questions.{resolution as resolution-of};
 ghost use Rattle.part.specs.Model.{model, monitor};
 ghost use Rattle.part.specs.Events.{step, pin as pins, trip as trips, write as writes, block as blocks, tripped, overwritten};
@@ -83,6 +83,17 @@ impl Part {
                 self.voltage.restart(self.settings.runs(Signal::Voltage));
             }
             _ => {}
+        }
+    }
+
+    /// Byte `k` of the readout of a signal's ring; nothing changes.
+    pub fn block_byte(&self, signal: Signal, k: usize) -> u8
+        ensures { λ r. ⌜ r ≡ byte-at (resolution-of (model (now (self .entry)) .settings) signal) (monitor signal (model (now (self .entry))) .ring) k ⌝ }
+    {
+        let resolution = self.settings.resolution(signal);
+        match signal {
+            Signal::Current => self.current.ring.byte(resolution, k),
+            Signal::Voltage => self.voltage.ring.byte(resolution, k),
         }
     }
 

@@ -21,7 +21,7 @@ use Rattle.registers.specs.Rows.{Row, rows, in-rows, mask-of, reset-of}
 use Rattle.registers.specs.Settings.{range-bits, enable-bits, first-byte, first-bytes, Resets-within}
 
 -- every row stands below the count of registers
-abbrev all-rows : (Row → Bool) → List Row → Bool
+abbrev pub all-rows : (Row → Bool) → List Row → Bool
 all-rows test [] = true
 all-rows test (r ∷ rs) = test r && all-rows test rs
 

@@ -114,21 +114,29 @@ unheard m a e is =
     (λ (t : hears m a ≡ false). (t, let same : refused e ≡ refused Silence = is ∙ ap (λ x. cond x done (refused Silence)) t in cc))
     (cases-bool (hears m a))
 
--- a block past its tests that meets silence
-module _ (m n : Meaning) (a base k : ℕ) (fits : sized k ≡ true) (ring : ring-base base ≡ true) (t : hears m a ≡ false) where
+-- and an acknowledge is none
+pub heard : (m : Meaning) (a : ℕ) → done ≡ bus-answer m a done → hears m a ≡ true
+heard m a e =
+    ⊎-elim
+    (λ t. t)
+    (λ (t : hears m a ≡ false). absurd (let no : done ≡ refused Silence = e ∙ ap (λ x. cond x done (refused Silence)) t in let z : _≡_ {A = ℕ} 0 1 = cc in omega arith))
+    (cases-bool (hears m a))
+
+-- a block past its tests, by whether the part listens
+module _ (m n : Meaning) (a base k : ℕ) (fits : sized k ≡ true) (ring : ring-base base ≡ true) (h : Bool) (t : hears m a ≡ h) where
   past : (sized k && ring-base base) ≡ true
   past = and-from (sized k) (ring-base base) fits ring
 
-  pub block-refused : accepts m (block a base k) ≡ false
-  block-refused = ap (λ y. y && hears m a) past ∙ t
+  pub block-accepted : accepts m (block a base k) ≡ h
+  block-accepted = ap (λ y. y && hears m a) past ∙ t
 
-  pub block-silent : answer m (block a base k) ≡ refused Silence
-  block-silent = ap (λ y. cond y (cond (ring-base base) (bus-answer m a (bytes (block-of (m .part) base k))) (refused Register)) (refused Length)) fits
+  pub block-answered : answer m (block a base k) ≡ cond h (bytes (block-of (m .part) base k)) (refused Silence)
+  block-answered = ap (λ y. cond y (cond (ring-base base) (bus-answer m a (bytes (block-of (m .part) base k))) (refused Register)) (refused Length)) fits
       ∙ ap (λ y. cond y (bus-answer m a (bytes (block-of (m .part) base k))) (refused Register)) ring
       ∙ ap (λ y. cond y (bytes (block-of (m .part) base k)) (refused Silence)) t
 
-  pub block-left : n .part ≡ m .part → n .owed ≡ cond (eqb a (address (m .part))) (m .owed - 1) (m .owed) → n ≡ next m (block a base k)
+  pub block-left : n .part ≡ cond h (does (m .part) (block a base k)) (m .part) → n .owed ≡ cond (eqb a (address (m .part))) (m .owed - 1) (m .owed) → n ≡ next m (block a base k)
   block-left e f =
       same-meaning n (next m (block a base k))
-      (e ∙ sym (ap (λ x. cond x (does (m .part) (block a base k)) (m .part)) block-refused))
+      (e ∙ sym (ap (λ x. cond x (does (m .part) (block a base k)) (m .part)) block-accepted))
       (f ∙ sym (ap (λ x. cond (x && eqb a (address (m .part))) (m .owed - 1) (m .owed)) past))

@@ -65,8 +65,12 @@ bus-answer m a good = cond (hears m a) good (refused Silence)
 abbrev pub block-of : Model → ℕ → ℕ → List ℕ
 block-of p base n = readout (resolution (p .settings) (ring-at base)) (monitor (ring-at base) p .ring) n
 
+-- the current is tested first
+abbrev pub tick-answer : ℕ → ℕ → Answer
+tick-answer i v = cond (leb i 1023) (cond (leb v 1023) done (refused (Sample Voltage))) (refused (Sample Current))
+
 abbrev pub answer : Meaning → Call → Answer
-answer m (tick i v) = cond (leb i 1023) (cond (leb v 1023) done (refused (Sample Voltage))) (refused (Sample Current))
+answer m (tick i v) = tick-answer i v
 answer m (pin w l) = done
 answer m (trip t) = done
 answer m outputs = levels (output-levels (m .part))

@@ -11,6 +11,7 @@ use crate::LONGEST_BLOCK;
 use crate::Refusal;
 use crate::Rig;
 use crate::ring_at;
+use crate::samples_of;
 use part::Outputs;
 use part::Part;
 use part::events::Pin;
@@ -18,8 +19,6 @@ use registers::causes::Trip;
 use registers::pins::Level;
 use registers::pins::Pins;
 use registers::register;
-use samples::sample::Sample;
-use samples::signal::Signal;
 
 /// A part, and how many silences it owes: while it boots it acknowledges nothing.
 #[derive(Drop)]
@@ -60,12 +59,7 @@ pub impl Rig for Direct as DirectRig {
     ghost meaning = { direct-meaning };
 
     fn tick(&mut self, current: u16, voltage: u16) -> Result<(), Refusal> {
-        let Some(i) = Sample::new(current) else {
-            return Err(Refusal::Sample(Signal::Current));
-        };
-        let Some(v) = Sample::new(voltage) else {
-            return Err(Refusal::Sample(Signal::Voltage));
-        };
+        let (i, v) = samples_of(current, voltage)?;
         self.part.tick(i, v);
         Ok(())
     }

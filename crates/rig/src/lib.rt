@@ -1,9 +1,11 @@
 //! Rigs: a part with a way to reach it. Every rig answers the same seven calls by the same meaning.
 ghost use mathlib.Core.Path.{_≡_};
-ghost use mathlib.Core.Bool.{cond};
+ghost use mathlib.Core.Bool.{cond, _&&_};
+ghost use lib.Dec.{leb};
+ghost use Rattle.std.specs.Results.{Cases, isOk};
 ghost use lib.ListN.{length};
 ghost use Rattle.std.specs.declared.option.Option.the-variants.{Some, None};
-ghost use Rattle.rig.specs.Meaning.{Meaning, Answer, tick as ticks, pin as pins, trip as trips, outputs as output-levels, put as puts, get as gets, block as blocks, done, byte, bytes, levels, next, answer, filled, ring-base, ring-at};
+ghost use Rattle.rig.specs.Meaning.{Meaning, Answer, tick as ticks, pin as pins, trip as trips, outputs as output-levels, put as puts, get as gets, block as blocks, done, byte, bytes, levels, next, answer, tick-answer, refused, filled, ring-base, ring-at};
 ghost use Rattle.rig.specs.Refusals.{told, number-of};
 
 mod direct;
@@ -20,6 +22,7 @@ pub use patience::PatienceRig;
 use registers::causes::Trip;
 use registers::pins::Level;
 use registers::register;
+use samples::sample::Sample;
 use samples::signal::Signal;
 use samples::signal::SignalPartialEq;
 
@@ -59,6 +62,20 @@ pub fn ring_at(base: u8) -> Option<Signal>
         register::CBUF_BA_I => Some(Signal::Current),
         _ => None,
     }
+}
+
+/// The samples of a tick, or its refusal: the current is tested first.
+pub fn samples_of(current: u16, voltage: u16) -> Result<(Sample, Sample), Refusal>
+    ensures samples { λ r. ⌜ Cases r (λ p. (p .0 .value ≡ current) × (p .1 .value ≡ voltage)) (λ e. refused e ≡ tick-answer current voltage) ⌝ }
+    ensures taken { λ r. ⌜ isOk r ≡ (leb current 1023 && leb voltage 1023) ⌝ }
+{
+    let Some(i) = Sample::new(current) else {
+        return Err(Refusal::Sample(Signal::Current));
+    };
+    let Some(v) = Sample::new(voltage) else {
+        return Err(Refusal::Sample(Signal::Voltage));
+    };
+    Ok((i, v))
 }
 
 /// The longest block.

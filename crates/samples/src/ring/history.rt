@@ -62,7 +62,8 @@ impl Ring {
         }
     }
 
-    fn byte(&self, resolution: Resolution, k: usize) -> u8
+    /// Byte `k` of the readout.
+    pub fn byte(&self, resolution: Resolution, k: usize) -> u8
         ensures { λ r. ⌜ r ≡ byte-at resolution (content (now (self .entry))) k ⌝ }
     {
         match resolution {
@@ -72,6 +73,7 @@ impl Ring {
         }
     }
 
+    /// Sample `k` in the order of the readout.
     fn in_readout(&self, k: usize) -> Sample
         ensures { λ r. ⌜ r .value ≡ sample-at (content (now (self .entry))) k ⌝ }
     {
