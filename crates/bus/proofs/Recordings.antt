@@ -7,10 +7,10 @@ use Rattle.bus.specs.declared.levels.Levels.{Levels}
 use Rattle.bus.specs.declared.recorder.Recorded.{Recorded}
 use Rattle.bus.specs.declared.recorder.Recorder.{Recorder}
 use Rattle.bus.specs.Frames.{Beat, Driven, done, told, heard}
-use Rattle.bus.specs.Recording.{entry, Records, Follows, ended, tells, hears}
+use Rattle.bus.specs.Recording.{entry, Records, Follows, ended, tells, hears, Keeps-runs}
 
 -- the bus below goes through the same beats
-pub below : {B : Type 0} {R : B → Levels → Bool → B → Type 0} {s t : Recorder B} {ks : List Beat}
+below : {B : Type 0} {R : B → Levels → Bool → B → Type 0} {s t : Recorder B} {ks : List Beat}
     → Driven (Records R) s ks t → Driven R (s .bus) ks (t .bus)
 below done = done
 below (told r p) = told (r .below) (below p)
@@ -21,7 +21,7 @@ kept : (b c : Bool) → (b ≡ true → c ≡ true) → c ≡ false → b ≡ fa
 kept true c f e = sym (f refl) ∙ e
 kept false c f e = refl
 
-pub before : {B : Type 0} {R : B → Levels → Bool → B → Type 0} {s t : Recorder B} {ks : List Beat}
+before : {B : Type 0} {R : B → Levels → Bool → B → Type 0} {s t : Recorder B} {ks : List Beat}
     → Driven (Records R) s ks t → t .lost ≡ false → s .lost ≡ false
 before done e = e
 before {s = s} (told {m = m} r p) e = kept (s .lost) (m .lost) (r .stays) (before p e)
@@ -32,7 +32,7 @@ more : {B : Type 0} {R : B → Levels → Bool → B → Type 0} {s m : Recorder
     → Records R s l a m → m .lost ≡ false → xs ≡ vec-items (m .entries) ++ es → xs ≡ vec-items (s .entries) ++ (entry l a ∷ es)
 more xs es r e f = f ∙ rw (r .grows, e) (simp append-assoc)
 
-pub recorded : {B : Type 0} {R : B → Levels → Bool → B → Type 0} {s t : Recorder B} {ks : List Beat}
+recorded : {B : Type 0} {R : B → Levels → Bool → B → Type 0} {s t : Recorder B} {ks : List Beat}
     → Driven (Records R) s ks t → t .lost ≡ false → (es : List Recorded) × (vec-items (t .entries) ≡ vec-items (s .entries) ++ es) × Follows ks es
 recorded {t = t} done e = ([], sym (append-nil (vec-items (t .entries))), ended)
 recorded {t = t} (told {l = l} {a = a} r p) e =
@@ -41,3 +41,6 @@ recorded {t = t} (told {l = l} {a = a} r p) e =
 recorded {t = t} (heard {l = l} {a = a} r p) e =
     let q = recorded p e in
     (entry l a ∷ q .0, more (vec-items (t .entries)) (q .0) r (before p e) (q .1), hears (q .2))
+
+pub keeps-runs : {B : Type 0} (R : B → Levels → Bool → B → Type 0) → Keeps-runs R
+keeps-runs R s t ks p = record { below = below p; follows = recorded p }

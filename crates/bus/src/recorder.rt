@@ -3,7 +3,7 @@ ghost use mathlib.Core.Path.{_≡_};
 ghost use mathlib.Core.Bool.{false, not};
 ghost use mathlib.Core.List.{[]};
 ghost use Rattle.std.specs.Of.Vec.{vec-items};
-ghost use Rattle.bus.specs.Recording.{Records};
+ghost use Rattle.bus.specs.Recording.{Records, Keeps-runs};
 use crate::Bus;
 use crate::levels::Levels;
 use crate::levels::LevelsPartialEq;
@@ -25,12 +25,13 @@ pub struct Recorder<B> {
     lost: bool,
 }
 
-impl<B> Recorder<B> {
+impl<B: Bus> Recorder<B> {
     /// An empty record over a bus.
     pub fn new(bus: B, heap: Global) -> Recorder<B>
         ensures bus { λ r. ⌜ r .bus ≡ bus ⌝ }
         ensures empty { λ r. ⌜ vec-items (r .entries) ≡ [] ⌝ }
         ensures complete { λ r. ⌜ r .lost ≡ false ⌝ }
+        ensures runs { λ _. ⌜ Keeps-runs (B·Bus .drives) ⌝ }
     {
         Recorder {
             bus,
@@ -38,7 +39,9 @@ impl<B> Recorder<B> {
             lost: false,
         }
     }
+}
 
+impl<B> Recorder<B> {
     /// What was driven and heard, in order; the whole run where the record is complete.
     pub fn record(&self) -> &[Recorded]
         ensures { λ r. ⌜ now r ≡ vec-items (now (self .entry) .entries) ⌝ }
