@@ -4,6 +4,7 @@ mod print;
 mod stop;
 mod story;
 
+use bus::levels::Levels;
 use part::Part;
 use part::replay::Event;
 use registers::causes::Trip;
@@ -23,6 +24,7 @@ use stop::Stop;
 use stop::StopFromIo;
 use wire::Wire;
 use wire::WireRig;
+use wire::receiver::Receiver;
 
 /// The payload bay's part: enabled by its pins, and at address 0x3A.
 fn payload_bay() -> Pins {
@@ -49,6 +51,28 @@ fn rigs(rt: &impl Print, address: u8) -> Result<(), Stop> {
     let mut patient = Patience::new(Wire::new(payload_bay(), 7), 2);
     story::wait(rt, &mut patient, address)?;
     story::tell(rt, &mut patient, address)
+}
+
+/// Levels that are no frame: a START, bits cut short by a STOP, and a clock with nobody addressed.
+fn noise(rt: &impl Print) -> io::Result<()> {
+    let levels = [
+        pair(true, false),
+        pair(false, true),
+        pair(true, true),
+        pair(false, false),
+        pair(true, false),
+        pair(true, true),
+        pair(false, true),
+        pair(true, true),
+    ];
+    let mut receiver = Receiver::power_up(payload_bay());
+    receiver.receive_all(&levels);
+    println!(rt, "A receiver after levels that are no frame")?;
+    print::outputs(rt, receiver.outputs())
+}
+
+fn pair(scl: bool, sda: bool) -> Levels {
+    Levels { scl, sda }
 }
 
 /// The samples 1 to 51.
@@ -102,6 +126,7 @@ fn main(rt: LibcRuntime) -> Result<(), Stop> {
     println!(rt, "A part powers up at address 0x{address:02X}")?;
     print::outputs(&rt, part.outputs())?;
     rigs(&rt, address)?;
+    noise(&rt)?;
     ring(&rt)?;
     replay(&rt)?;
     Ok(())
