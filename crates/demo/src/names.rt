@@ -2,7 +2,7 @@
 use registers::register;
 
 /// The name of a register and what it is for; none of a number that has no use.
-pub fn of(number: u8) -> Option<(&'static str, &'static str)> {
+pub(crate) fn of(number: u8) -> Option<(&'static str, &'static str)> {
     let names = match number {
         register::ADC_CS_MSB => ("adc_cs_msb", "latest current, high eight bits"),
         register::ADC_CS_LSB => ("adc_cs_lsb", "latest current, low two bits"),

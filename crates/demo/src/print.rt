@@ -18,7 +18,7 @@ fn word(level: Level) -> &'static str {
     }
 }
 
-pub fn outputs(rt: &impl Print, outputs: Outputs) -> io::Result<()> {
+pub(crate) fn outputs(rt: &impl Print, outputs: Outputs) -> io::Result<()> {
     let fault = word(outputs.fault);
     let alert = word(outputs.alert);
     let pg = word(outputs.pg);
@@ -26,7 +26,7 @@ pub fn outputs(rt: &impl Print, outputs: Outputs) -> io::Result<()> {
 }
 
 /// The output pins and the status and log registers that are not 0.
-pub fn status<R: Rig>(rt: &impl Print, rig: &mut R, address: u8) -> Result<(), Stop> {
+pub(crate) fn status<R: Rig>(rt: &impl Print, rig: &mut R, address: u8) -> Result<(), Stop> {
     outputs(rt, rig.outputs())?;
     for number in register::STATUS0..=register::FAULT2 {
         named(rt, number, rig.get(address, number)?)?;
@@ -35,7 +35,7 @@ pub fn status<R: Rig>(rt: &impl Print, rig: &mut R, address: u8) -> Result<(), S
 }
 
 /// All registers, eight to a row, and then those that are not 0 by name.
-pub fn registers<R: Rig>(rt: &impl Print, rig: &mut R, address: u8) -> Result<(), Stop> {
+pub(crate) fn registers<R: Rig>(rt: &impl Print, rig: &mut R, address: u8) -> Result<(), Stop> {
     println!(rt, "  registers")?;
     for number in 0..register::COUNT as u8 {
         cell(rt, number, rig.get(address, number)?)?;
@@ -68,7 +68,7 @@ fn named(rt: &impl Print, number: u8, byte: u8) -> io::Result<()> {
 }
 
 /// The samples of a ring, the oldest first, ten to a row.
-pub fn content(rt: &impl Print, ring: &Ring) -> io::Result<()> {
+pub(crate) fn content(rt: &impl Print, ring: &Ring) -> io::Result<()> {
     println!(rt, "  content, oldest first")?;
     let content = ring.oldest_first();
     for (k, sample) in content.iter().enumerate() {
@@ -85,7 +85,7 @@ pub fn content(rt: &impl Print, ring: &Ring) -> io::Result<()> {
 }
 
 /// Bytes, twenty to a row.
-pub fn bytes(rt: &impl Print, title: &str, bytes: &[u8]) -> io::Result<()> {
+pub(crate) fn bytes(rt: &impl Print, title: &str, bytes: &[u8]) -> io::Result<()> {
     println!(rt, "  {title}")?;
     for (k, byte) in bytes.iter().enumerate() {
         if k % 20 == 0 {

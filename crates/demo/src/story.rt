@@ -43,7 +43,7 @@ fn run_down<R: Rig>(rig: &mut R) -> Result<(), Refusal> {
 }
 
 /// Gets a register until it is answered, and prints each refusal.
-pub fn wait<R: Rig>(rt: &impl Print, rig: &mut R, address: u8) -> Result<(), Stop> {
+pub(crate) fn wait<R: Rig>(rt: &impl Print, rig: &mut R, address: u8) -> Result<(), Stop> {
     for _ in 0..255u8 {
         match rig.get(address, register::STATUS1) {
             Ok(_) => {
@@ -59,7 +59,7 @@ pub fn wait<R: Rig>(rt: &impl Print, rig: &mut R, address: u8) -> Result<(), Sto
     Ok(())
 }
 
-pub fn tell<R: Rig>(rt: &impl Print, rig: &mut R, address: u8) -> Result<(), Stop> {
+pub(crate) fn tell<R: Rig>(rt: &impl Print, rig: &mut R, address: u8) -> Result<(), Stop> {
     print::registers(rt, rig, address)?;
     set_up(rig, address)?;
     println!(rt, "  settings written")?;

@@ -40,7 +40,7 @@ pub enum Ending {
 
 impl Call {
     /// The whole call on a bus, from START to STOP.
-    pub fn make<B: Bus>(self, bus: &mut B) -> Ending {
+    pub(crate) fn make<B: Bus>(self, bus: &mut B) -> Ending {
         match self.request {
             Request::Put(byte) => Ending::of_put(sender::put(
                 bus,

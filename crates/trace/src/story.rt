@@ -63,7 +63,7 @@ pub struct Told {
 }
 
 /// The payload bay's part: enabled by its pins, and its rings full, so that the block has bits to show.
-pub fn payload_bay() -> Receiver {
+pub(crate) fn payload_bay() -> Receiver {
     let pins = Pins {
         on: Level::High,
         hwen: Level::High,
@@ -96,7 +96,7 @@ fn make<B: Bus>(bus: &mut Recorder<B>, call: Call) -> Told
 }
 
 /// Makes the calls, in order. The part owes the first one a silence, so the same put is made again.
-pub fn tell<B: Bus>(bus: &mut Recorder<B>) -> [Told; 5] {
+pub(crate) fn tell<B: Bus>(bus: &mut Recorder<B>) -> [Told; 5] {
     [
         make(bus, RESOLUTION),
         make(bus, RESOLUTION),

@@ -89,7 +89,7 @@ fn comment(rt: &impl Print, told: &[Told], before: usize) -> io::Result<()> {
 }
 
 /// The dump. The bus rests at time 0, the first pair is driven at time 1, and the last one stands for a unit too.
-pub fn dump(rt: &impl Print, told: &[Told], record: &[Recorded]) -> io::Result<()> {
+pub(crate) fn dump(rt: &impl Print, told: &[Told], record: &[Recorded]) -> io::Result<()> {
     header(rt)?;
     at_rest(rt)?;
     let mut levels = REST;
