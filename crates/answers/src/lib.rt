@@ -1,4 +1,6 @@
 //! Answers of a console: each is one line of text, at the front of a caller's buffer.
+#![tactic(auto)]
+
 ghost use Rattle.std.specs.Prelude.{◌≡◌, ◌≤◌, length, IfOk};
 ghost use Rattle.answers.specs.Text.{byte_text, report_text, refusal_text, text_of, at_front, written_length, written_buffer};
 

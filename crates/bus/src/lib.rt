@@ -1,4 +1,6 @@
 //! An I2C bus of one master: the levels that it drives, the frames that it sends, and a recorder of both lines.
+#![tactic(auto)]
+
 ghost use Rattle.std.specs.Prelude.{Bool};
 ghost use Rattle.bus.specs.declared.levels.Levels.{Levels};
 

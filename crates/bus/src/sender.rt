@@ -29,21 +29,21 @@ pub enum ReadFault {
 }
 
 fn drive<B: Bus>(bus: &mut B, scl: bool, sda: bool) -> bool
-    ensures { drives bus.old (pair scl sda) result bus.new }
+    ensures { B.drives bus.old (pair scl sda) result bus.new }
 {
     bus.drive(Levels { scl, sda })
 }
 
 /// START from rest: SDA falls while SCL is high.
 fn start<B: Bus>(bus: &mut B)
-    ensures { Driven drives bus.old start_frame bus.new }
+    ensures { Driven B.drives bus.old start_frame bus.new }
 {
     drive(bus, true, false);
 }
 
 /// Repeated START: SDA rises while SCL is low, and then falls while SCL is high.
 fn start_again<B: Bus>(bus: &mut B)
-    ensures { Driven drives bus.old repeat_frame bus.new }
+    ensures { Driven B.drives bus.old repeat_frame bus.new }
 {
     drive(bus, false, true);
     drive(bus, true, true);
@@ -52,7 +52,7 @@ fn start_again<B: Bus>(bus: &mut B)
 
 /// STOP: SDA falls while SCL is low, and then rises while SCL is high.
 fn stop<B: Bus>(bus: &mut B)
-    ensures { Driven drives bus.old stop_frame bus.new }
+    ensures { Driven B.drives bus.old stop_frame bus.new }
 {
     drive(bus, false, false);
     drive(bus, true, false);
@@ -61,7 +61,7 @@ fn stop<B: Bus>(bus: &mut B)
 
 /// Sends a bit, and hears SDA while SCL is high.
 fn send_bit<B: Bus>(bus: &mut B, bit: bool) -> bool
-    ensures { Driven drives bus.old (heard_frame bit result) bus.new }
+    ensures { Driven B.drives bus.old (heard_frame bit result) bus.new }
 {
     drive(bus, false, bit);
     let heard = drive(bus, true, bit);
@@ -71,7 +71,7 @@ fn send_bit<B: Bus>(bus: &mut B, bit: bool) -> bool
 
 /// Sends a byte, the most significant bit first; whether it was acknowledged, by SDA low in the ninth bit.
 fn send_byte<B: Bus>(bus: &mut B, byte: u8) -> bool
-    ensures { Driven drives bus.old (byte_frame byte result) bus.new }
+    ensures { Driven B.drives bus.old (byte_frame byte result) bus.new }
 {
     for i in 0..8u8 {
         send_bit(bus, (byte >> (7 - i)) % 2 == 1);
@@ -81,7 +81,7 @@ fn send_byte<B: Bus>(bus: &mut B, byte: u8) -> bool
 
 /// Takes a byte, the most significant bit first, with SDA let go.
 fn read_byte<B: Bus>(bus: &mut B) -> u8
-    ensures { Driven drives bus.old (taken_bits result 8) bus.new }
+    ensures { Driven B.drives bus.old (taken_bits result 8) bus.new }
 {
     let mut byte = 0u8;
     for _ in 0..8u8 {
@@ -93,7 +93,7 @@ fn read_byte<B: Bus>(bus: &mut B) -> u8
 
 /// Takes a byte into each place. Each but the last is acknowledged: a missing acknowledge asks for no more.
 fn read_all<B: Bus>(bus: &mut B, into: &mut [u8])
-    ensures { Driven drives bus.old (taken_bytes into.new (length into.new)) bus.new }
+    ensures { Driven B.drives bus.old (taken_bytes into.new (length into.new)) bus.new }
 {
     let count = into.len();
     for i in 0..count {
@@ -105,7 +105,7 @@ fn read_all<B: Bus>(bus: &mut B, into: &mut [u8])
 /// The bytes of a `put`, up to one that is not acknowledged.
 fn send_put<B: Bus>(bus: &mut B, address: u8, register: u8, byte: u8) -> Result<(), PutFault>
     requires { address < 128 }
-    ensures { Driven drives bus.old (put_bytes address register byte result) bus.new }
+    ensures { Driven B.drives bus.old (put_bytes address register byte result) bus.new }
 {
     if !send_byte(bus, address * 2) {
         return Err(PutFault::Address);
@@ -127,7 +127,7 @@ fn send_read<B: Bus>(
     into: &mut [u8],
 ) -> Result<(), ReadFault>
     requires { address < 128 }
-    ensures run { Driven drives bus.old (read_bytes address register into.new result) bus.new }
+    ensures run { Driven B.drives bus.old (read_bytes address register into.new result) bus.new }
     ensures kept { is_err result ≡ true → into.new ≡ into.old }
 {
     if !send_byte(bus, address * 2) {
@@ -146,7 +146,7 @@ fn send_read<B: Bus>(
 
 /// Writes a byte into a register of the part at an address. A missing acknowledge is followed by STOP.
 pub fn put<B: Bus>(bus: &mut B, address: u8, register: u8, byte: u8) -> Result<(), PutFault>
-    ensures run { Driven drives bus.old (put_frame address register byte result) bus.new }
+    ensures run { Driven B.drives bus.old (put_frame address register byte result) bus.new }
     ensures unsent { 128 ≤ address → result ≡ Err PutFault.Address }
 {
     if address > HIGHEST_ADDRESS {
@@ -166,7 +166,7 @@ pub fn read<B: Bus>(
     register: u8,
     into: &mut [u8],
 ) -> Result<(), ReadFault>
-    ensures run { Driven drives bus.old (read_frame address register into.new result) bus.new }
+    ensures run { Driven B.drives bus.old (read_frame address register into.new result) bus.new }
     ensures unsent { 128 ≤ address → result ≡ Err ReadFault.Address }
     ensures bytes { (k : ℕ) → slice_index into.new k < 256 }
     ensures none { address < 128 → length into.old ≡ 0 → result ≡ Ok tt }

@@ -1,4 +1,6 @@
 //! The console over any rig: a line of a script in, an answer out.
+#![tactic(auto)]
+
 ghost use Rattle.std.specs.Prelude.{◌≡◌, ℕ, ◌≤◌, length, if◌then◌else◌, Ok, Result};
 ghost use Rattle.script.specs.declared.command.Command.{Command as Spoken};
 ghost use Rattle.answers.specs.Text.{text_of, at_front};

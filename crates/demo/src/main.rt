@@ -1,4 +1,6 @@
 //! A short tour of the library, printed stage by stage.
+#![tactic(auto)]
+
 mod names;
 mod print;
 mod stop;

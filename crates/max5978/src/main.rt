@@ -1,4 +1,6 @@
 //! The console on standard input: a script in, an answer to each line out.
+#![tactic(auto)]
+
 use std::io;
 use std::io::{BufWriter, Read, Write};
 

@@ -1,4 +1,6 @@
 //! The part itself: what it holds, what power-up leaves in it, what events make of it, and what it shows.
+#![tactic(auto)]
+
 mod channel;
 pub mod events;
 pub mod monitor;

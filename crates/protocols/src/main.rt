@@ -1,4 +1,6 @@
 //! Scripts with the answers that they must print: each is run, and what it prints is compared.
+#![tactic(auto)]
+
 use std::alloc::Global;
 use std::fs;
 

@@ -1,4 +1,6 @@
 //! Readings: the report on the part of any rig, made from what the bus hands over.
+#![tactic(auto)]
+
 ghost use Rattle.std.specs.Prelude.{◌≡◌, length, is_ok, OnOk};
 ghost use Rattle.reading.specs.Laws.{Finishes, ShowsPoints, Tells, Goes_on};
 ghost use Rattle.reading.specs.Reading.{fault_number, read_result, read_next, read_buffer};

@@ -1,4 +1,6 @@
 //! The part's pins and address, the names of its registers, the tables of writable bits and reset bytes, and the settings.
+#![tactic(auto)]
+
 pub mod causes;
 pub mod pins;
 pub mod register;

@@ -1,4 +1,6 @@
 //! Reports: the layout of their 270 bytes, and a viewer that reads them in place.
+#![tactic(auto)]
+
 ghost use Rattle.std.specs.Prelude.{◌≡◌, length, MatchResult, ◌≢◌};
 
 pub mod view;

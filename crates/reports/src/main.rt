@@ -1,4 +1,6 @@
 //! Two rigs of two kinds compared by the reports on their parts, and a report as an engineer reads it.
+#![tactic(auto)]
+
 mod compared;
 mod names;
 mod page;

@@ -1,4 +1,6 @@
 //! Rigs: a part with a way to reach it. Every rig answers the same seven calls by the same meaning.
+#![tactic(auto)]
+
 ghost use Rattle.std.specs.Prelude.{◌≡◌, ◌&&◌, length, is_ok, if◌then◌else◌, Some, None, MatchResult, nat_le};
 ghost use Rattle.rig.specs.Meaning.{Meaning, Answer, tick as ticks, pin as pins, trip as trips, outputs as output_levels, put as puts, get as gets, block as blocks, done, byte, bytes, levels, next, answer, tick_answer, refused, filled, ring_base, ring_at};
 ghost use Rattle.rig.specs.Refusals.{told, number_of};

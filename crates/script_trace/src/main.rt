@@ -1,4 +1,6 @@
 //! The bus of the payload bay's part while a script is played, printed as a value change dump.
+#![tactic(auto)]
+
 mod call;
 mod player;
 mod vcd;

@@ -1,4 +1,6 @@
 //! A whole script on the payload bay's part: the console over patience 2 on the wire rig.
+#![tactic(auto)]
+
 ghost use Rattle.std.specs.Prelude.{◌≡◌};
 ghost use Rattle.answers.specs.declared.Answer.TheVariants.{Refused};
 ghost use Rattle.session.specs.Bay.{bay};

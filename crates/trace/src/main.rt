@@ -1,4 +1,6 @@
 //! A short story on the bus of a part, printed as a value change dump.
+#![tactic(auto)]
+
 mod call;
 mod story;
 mod vcd;

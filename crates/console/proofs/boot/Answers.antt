@@ -6,9 +6,9 @@ use Rattle.console.proofs.boot.Goals as goal
 
 pub returns : goal.returns
 returns c =
-    let one = first_one c.args.line.now c.hold-off.result in
+    let one = first_one c.args.line.now c.hold_off.result in
     record {
-      answers = λ s r. c.start.ensures.answers ∙ ap (boot_result (length c.args.out.now)) (one s c.hold-off.ensures r);
-      written = λ s r. c.start.ensures.written ∙ ap (λ x. answer_buffer c.args.out.now 1 (boot_outcome x)) (one s c.hold-off.ensures r);
+      answers = λ s r. c.start.ensures.answers ∙ ap (boot_result (length c.args.out.now)) (one s c.hold_off.ensures r);
+      written = λ s r. c.start.ensures.written ∙ ap (λ x. answer_buffer c.args.out.now 1 (boot_outcome x)) (one s c.hold_off.ensures r);
       bound = c.start.ensures.bound;
     }

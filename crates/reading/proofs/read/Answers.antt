@@ -7,12 +7,12 @@ use Rattle.reading.proofs.Finished.{Read, finished, unanswered, unfit}
 use Rattle.reading.proofs.Laws.{law_finishes, law_shows, law_tells, law_goes_on}
 use Rattle.reading.proofs.read.Goals as goal
 
-pub returns-then-report-ne-REPORT-BYTES : goal.returns-then-report-ne-REPORT-BYTES
-returns-then-report-ne-REPORT-BYTES g c =
+pub returns-then-report-ne-REPORT_BYTES : goal.returns-then-report-ne-REPORT_BYTES
+returns-then-report-ne-REPORT_BYTES g c =
     let m : Meaning = g.R.Rig.meaning c.args.rig.now in
     let a : ℕ = c.args.address in
     let before : List ℕ = c.args.report.now in
-    let read = unfit m a before c.if-report-ne-REPORT-BYTES.true in
+    let read = unfit m a before c.if-report-ne-REPORT_BYTES.true in
     record {
       answers = read.answers;
       after = read.left;
@@ -23,25 +23,25 @@ returns-then-report-ne-REPORT-BYTES g c =
       goes_on = law_goes_on m a before (Err Size) m before read;
     }
 
-pub returns-in-err-parts : goal.returns-in-err-parts
-returns-in-err-parts g c =
+pub returns-in_err-parts : goal.returns-in_err-parts
+returns-in_err-parts g c =
     let m : Meaning = g.R.Rig.meaning c.args.rig.now in
     let a : ℕ = c.args.address in
     let before : List ℕ = c.args.report.now in
     let n : Meaning = g.R.Rig.meaning c.read.new.rig in
-    let no = c.in-err-parts.ensures in
-    let e = err_from_is_err_and c.from-residual.result c.from-residual.ensures.1 in
-    let silent = unanswered m a before n c.if-report-ne-REPORT-BYTES.false no.1 no.2 in
-    let read : Read (g.R.Rig.meaning c.args.rig.now) c.args.address c.args.report.now c.from-residual.result (g.R.Rig.meaning c.read.new.rig) c.args.report.now =
+    let no = c.in_err-parts.ensures in
+    let e = err_from_is_err_and c.from_residual.result c.from_residual.ensures.1 in
+    let silent = unanswered m a before n c.if-report-ne-REPORT_BYTES.false no.1 no.2 in
+    let read : Read (g.R.Rig.meaning c.args.rig.now) c.args.address c.args.report.now c.from_residual.result (g.R.Rig.meaning c.read.new.rig) c.args.report.now =
     record { answers = e.1 ∙ ap Err (e.2 ∙ ap Refused no.0) ∙ silent.answers; left = silent.left; written = silent.written } in
     record {
       answers = read.answers;
       after = read.left;
       written = read.written;
-      finishes = law_finishes m a before c.from-residual.result n before read;
-      shows = law_shows m a before c.from-residual.result n before read;
-      tells = law_tells m a before c.from-residual.result n before read;
-      goes_on = law_goes_on m a before c.from-residual.result n before read;
+      finishes = law_finishes m a before c.from_residual.result n before read;
+      shows = law_shows m a before c.from_residual.result n before read;
+      tells = law_tells m a before c.from_residual.result n before read;
+      goes_on = law_goes_on m a before c.from_residual.result n before read;
     }
 
 pub returns : goal.returns
@@ -50,8 +50,8 @@ returns g c =
     let a : ℕ = c.args.address in
     let before : List ℕ = c.args.report.now in
     let n : Meaning = g.R.Rig.meaning c.read.new.rig in
-    let parts = c.in-ok-parts.ensures in
-    let read = finished m a before n c.if-report-ne-REPORT-BYTES.false c.write.new.report parts.3 parts.4 c.in-ok-parts.parts.registers c.in-ok-parts.parts.voltage c.in-ok-parts.parts.current parts.0 parts.1 parts.2 c.write.ensures in
+    let parts = c.in_ok-parts.ensures in
+    let read = finished m a before n c.if-report-ne-REPORT_BYTES.false c.write.new.report parts.3 parts.4 c.in_ok-parts.parts.registers c.in_ok-parts.parts.voltage c.in_ok-parts.parts.current parts.0 parts.1 parts.2 c.write.ensures in
     record {
       answers = read.answers;
       after = read.left;

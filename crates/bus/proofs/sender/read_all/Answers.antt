@@ -9,5 +9,5 @@ loop-i-init g c = done
 
 pub loop-i-preserved : goal.loop-i-preserved
 loop-i-preserved g c =
-    byte_more c.loop-i.into c.loop-i.i c.read-byte.result _ (omega arith) (omega arith) c.loop-i.invariant c.read-byte.ensures
-    (unheard c.send-bit.ensures)
+    byte_more c.loop-i.into c.loop-i.i c.read_byte.result _ (omega arith) (omega arith) c.loop-i.invariant c.read_byte.ensures
+    (unheard c.send_bit.ensures)

@@ -9,9 +9,9 @@ loop-init g c = (omega arith, done)
 
 pub loop-preserved : goal.loop-preserved
 loop-preserved g c =
-    bit_more c.loop.byte c.loop.counter c.from.result c.send-bit-bit.result c.loop.invariant.0 c.loop-test.true c.from.ensures
+    bit_more c.loop.byte c.loop.counter c.from.result c.send_bit-bit.result c.loop.invariant.0 c.loop-test.true c.from.ensures
     c.loop.invariant.1
-    c.send-bit-bit.ensures
+    c.send_bit-bit.ensures
 
 pub returns : goal.returns
 returns g c =

@@ -9,9 +9,9 @@ loop-i-init g c = done
 
 pub loop-i-preserved : goal.loop-i-preserved
 unfolding bits_frame
-loop-i-preserved g c = rw add-one (then c.loop-i.invariant (unheard c.send-bit.ensures))
+loop-i-preserved g c = rw add-one (then c.loop-i.invariant (unheard c.send_bit.ensures))
 
 pub returns : goal.returns
 returns g c =
     let e : c.loop-i.i ≡ 8 = omega arith in
-    ninth c.args.byte c.loop-i.i c.send-bit-2.result e c.loop-i.invariant c.send-bit-2.ensures
+    ninth c.args.byte c.loop-i.i c.send_bit-2.result e c.loop-i.invariant c.send_bit-2.ensures

@@ -12,10 +12,10 @@ returns g c =
     let before : List ℕ = c.args.out.now in
     let one = reads_one c.args.line.now c.command.result in
     record {
-      answers = λ s r. c.answer-spoken.ensures.answers ∙ ap (λ x. answer_result (length before) n (line_outcome m a x)) (one s c.command.ensures r);
-      after = λ s r. c.answer-spoken.ensures.after ∙ ap (answer_left (length before) m a) (one s c.command.ensures r);
-      written = λ s r. c.answer-spoken.ensures.written ∙ ap (λ x. answer_buffer before n (line_outcome m a x)) (one s c.command.ensures r);
-      counted = c.answer-spoken.ensures.counted;
-      address = c.answer-spoken.ensures.address;
-      bound = c.answer-spoken.ensures.bound;
+      answers = λ s r. c.answer_spoken.ensures.answers ∙ ap (λ x. answer_result (length before) n (line_outcome m a x)) (one s c.command.ensures r);
+      after = λ s r. c.answer_spoken.ensures.after ∙ ap (answer_left (length before) m a) (one s c.command.ensures r);
+      written = λ s r. c.answer_spoken.ensures.written ∙ ap (λ x. answer_buffer before n (line_outcome m a x)) (one s c.command.ensures r);
+      counted = c.answer_spoken.ensures.counted;
+      address = c.answer_spoken.ensures.address;
+      bound = c.answer_spoken.ensures.bound;
     }

@@ -9,7 +9,7 @@ returns c =
     let made : Part =
     record {
       pins = c.args.pins;
-      settings = c.power-up.result;
+      settings = c.power_up.result;
       current = c.new.result;
       voltage = c.new-2.result;
       logs = c.none.result;

@@ -6,17 +6,17 @@ use Rattle.reading.specs.Compare.{both_sized}
 use Rattle.reading.proofs.Compares.{read_done, read_refused, left_fits, right_fits, fault_is, left_next_is, right_next_is, left_report_is, left_read_is, both_is, right_buffer_is, right_read_is, both_law, tells_law}
 use Rattle.reading.proofs.comparing.compare.Goals as goal
 
-pub returns-in-err-read : goal.returns-in-err-read
-returns-in-err-read g c =
+pub returns-in_err-read : goal.returns-in_err-read
+returns-in_err-read g c =
     let m : Meaning = g.L.Rig.meaning c.args.left.now in
     let n : Meaning = g.R.Rig.meaning c.args.right.now in
-    let a : ℕ = c.args.left-address in
-    let b : ℕ = c.args.right-address in
-    let lb : List ℕ = c.args.left-report.now in
-    let rb : List ℕ = c.args.right-report.now in
-    let fit = sym c.both-fit.ensures ∙ c.if-not-both-fit.false in
-    let no = read_refused m a (length lb) (left_fits m a lb n b rb fit) _ c.in-err-read.ensures.answers in
-    let e = err_from_is_err_and c.from-residual.result c.from-residual.ensures.1 in
+    let a : ℕ = c.args.left_address in
+    let b : ℕ = c.args.right_address in
+    let lb : List ℕ = c.args.left_report.now in
+    let rb : List ℕ = c.args.right_report.now in
+    let fit = sym c.both_fit.ensures ∙ c.if-not-both_fit.false in
+    let no = read_refused m a (length lb) (left_fits m a lb n b rb fit) _ c.in_err-read.ensures.answers in
+    let e = err_from_is_err_and c.from_residual.result c.from_residual.ensures.1 in
     let none = both_is m a lb n b rb fit false no.0 (hears n b) refl in
     rw e.1
     record {
@@ -24,24 +24,24 @@ returns-in-err-read g c =
       tells = tt;
       answers = e.2 ∙ no.1 ∙ sym (fault_is m a lb n b rb fit);
       finished = sym none;
-      left_after = c.in-err-read.ensures.after ∙ sym (left_next_is m a lb n b rb fit);
+      left_after = c.in_err-read.ensures.after ∙ sym (left_next_is m a lb n b rb fit);
       right_after = sym (right_next_is m a lb n b rb fit false no.0);
-      left_written = c.in-err-read.ensures.written ∙ left_read_is m a lb n b rb fit false no.0;
+      left_written = c.in_err-read.ensures.written ∙ left_read_is m a lb n b rb fit false no.0;
       right_written = sym (right_buffer_is m a lb n b rb fit false no.0 (hears n b) refl);
     }
 
-pub returns-in-err-read-2 : goal.returns-in-err-read-2
-returns-in-err-read-2 g c =
+pub returns-in_err-read-2 : goal.returns-in_err-read-2
+returns-in_err-read-2 g c =
     let m : Meaning = g.L.Rig.meaning c.args.left.now in
     let n : Meaning = g.R.Rig.meaning c.args.right.now in
-    let a : ℕ = c.args.left-address in
-    let b : ℕ = c.args.right-address in
-    let lb : List ℕ = c.args.left-report.now in
-    let rb : List ℕ = c.args.right-report.now in
-    let fit = sym c.both-fit.ensures ∙ c.if-not-both-fit.false in
-    let on = read_done m a (length lb) (left_fits m a lb n b rb fit) c.in-ok-read.ensures.answers in
-    let no = read_refused n b (length rb) (right_fits m a lb n b rb fit) _ c.in-err-read-2.ensures.answers in
-    let e = err_from_is_err_and c.from-residual-in-err-read-2.result c.from-residual-in-err-read-2.ensures.1 in
+    let a : ℕ = c.args.left_address in
+    let b : ℕ = c.args.right_address in
+    let lb : List ℕ = c.args.left_report.now in
+    let rb : List ℕ = c.args.right_report.now in
+    let fit = sym c.both_fit.ensures ∙ c.if-not-both_fit.false in
+    let on = read_done m a (length lb) (left_fits m a lb n b rb fit) c.in_ok-read.ensures.answers in
+    let no = read_refused n b (length rb) (right_fits m a lb n b rb fit) _ c.in_err-read-2.ensures.answers in
+    let e = err_from_is_err_and c.from_residual-in_err-read-2.result c.from_residual-in_err-read-2.ensures.1 in
     let none = both_is m a lb n b rb fit true on false no.0 in
     rw e.1
     record {
@@ -49,26 +49,26 @@ returns-in-err-read-2 g c =
       tells = tt;
       answers = e.2 ∙ no.1 ∙ sym (fault_is m a lb n b rb fit);
       finished = sym none;
-      left_after = c.in-ok-read.ensures.after ∙ sym (left_next_is m a lb n b rb fit);
-      right_after = c.in-err-read-2.ensures.after ∙ sym (right_next_is m a lb n b rb fit true on);
-      left_written = c.in-ok-read.ensures.written ∙ left_read_is m a lb n b rb fit true on;
-      right_written = c.in-err-read-2.ensures.written ∙ right_read_is m a lb n b rb fit true on false no.0 ∙ sym (right_buffer_is m a lb n b rb fit true on false no.0);
+      left_after = c.in_ok-read.ensures.after ∙ sym (left_next_is m a lb n b rb fit);
+      right_after = c.in_err-read-2.ensures.after ∙ sym (right_next_is m a lb n b rb fit true on);
+      left_written = c.in_ok-read.ensures.written ∙ left_read_is m a lb n b rb fit true on;
+      right_written = c.in_err-read-2.ensures.written ∙ right_read_is m a lb n b rb fit true on false no.0 ∙ sym (right_buffer_is m a lb n b rb fit true on false no.0);
     }
 
 pub returns : goal.returns
 returns g c =
     let m : Meaning = g.L.Rig.meaning c.args.left.now in
     let n : Meaning = g.R.Rig.meaning c.args.right.now in
-    let a : ℕ = c.args.left-address in
-    let b : ℕ = c.args.right-address in
-    let lb : List ℕ = c.args.left-report.now in
-    let rb : List ℕ = c.args.right-report.now in
-    let fit = sym c.both-fit.ensures ∙ c.if-not-both-fit.false in
-    let on = read_done m a (length lb) (left_fits m a lb n b rb fit) c.in-ok-read.ensures.answers in
-    let too = read_done n b (length rb) (right_fits m a lb n b rb fit) c.in-ok-read-2.ensures.answers in
+    let a : ℕ = c.args.left_address in
+    let b : ℕ = c.args.right_address in
+    let lb : List ℕ = c.args.left_report.now in
+    let rb : List ℕ = c.args.right_report.now in
+    let fit = sym c.both_fit.ensures ∙ c.if-not-both_fit.false in
+    let on = read_done m a (length lb) (left_fits m a lb n b rb fit) c.in_ok-read.ensures.answers in
+    let too = read_done n b (length rb) (right_fits m a lb n b rb fit) c.in_ok-read-2.ensures.answers in
     let both = both_is m a lb n b rb fit true on true too in
-    let left_is = c.in-ok-read.ensures.written ∙ left_report_is m a lb n b rb fit true on in
-    let right_is = c.in-ok-read-2.ensures.written ∙ right_read_is m a lb n b rb fit true on true too in
+    let left_is = c.in_ok-read.ensures.written ∙ left_report_is m a lb n b rb fit true on in
+    let right_is = c.in_ok-read-2.ensures.written ∙ right_read_is m a lb n b rb fit true on true too in
     let tells_same : Decides c.same.result (report (g.L.Rig.meaning c.args.left.now).part ≡ report (g.R.Rig.meaning c.args.right.now).part) =
     (λ t. sym left_is ∙ c.same.ensures.0 t ∙ right_is, λ e. c.same.ensures.1 (left_is ∙ e ∙ sym right_is)) in
     record {
@@ -76,8 +76,8 @@ returns g c =
       tells = tells_law m n c.same.result tells_same;
       answers = tells_same;
       finished = sym both;
-      left_after = c.in-ok-read.ensures.after ∙ sym (left_next_is m a lb n b rb fit);
-      right_after = c.in-ok-read-2.ensures.after ∙ sym (right_next_is m a lb n b rb fit true on);
-      left_written = c.in-ok-read.ensures.written ∙ left_read_is m a lb n b rb fit true on;
+      left_after = c.in_ok-read.ensures.after ∙ sym (left_next_is m a lb n b rb fit);
+      right_after = c.in_ok-read-2.ensures.after ∙ sym (right_next_is m a lb n b rb fit true on);
+      left_written = c.in_ok-read.ensures.written ∙ left_read_is m a lb n b rb fit true on;
       right_written = right_is ∙ sym (right_buffer_is m a lb n b rb fit true on true too);
     }

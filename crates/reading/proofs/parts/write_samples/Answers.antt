@@ -9,7 +9,7 @@ loop-k-preserved c =
     let lt : c.loop-k.k < length c.loop-k.out = omega arith in
     below_more _ _
     (λ j h. let ne : j ≢ c.loop-k.k = omega arith in rw get_or-set_other (c.loop-k.invariant j h))
-    (rw get_or-set_same c.sample-byte.ensures)
+    (rw get_or-set_same c.sample_byte.ensures)
 
 pub returns : goal.returns
 returns c =

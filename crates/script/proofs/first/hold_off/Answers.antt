@@ -20,29 +20,29 @@ returns-then-line-eq2 c =
     let space = stands line 1 32 (sym c.has-spaced.ensures ∙ c.if-not-spaced.false) in
     wrong_short line (omega arith) letter space
 
-pub returns-then-i-eq-MOST-DIGITS : goal.returns-then-i-eq-MOST-DIGITS
-returns-then-i-eq-MOST-DIGITS c =
+pub returns-then-i-eq-MOST_DIGITS : goal.returns-then-i-eq-MOST_DIGITS
+returns-then-i-eq-MOST_DIGITS c =
     let line = c.args.line.now in
     let letter = stands line 0 66 (sym c.has-lettered.ensures ∙ c.if-not-lettered.false) in
     let space = stands line 1 32 (sym c.has-spaced.ensures ∙ c.if-not-spaced.false) in
-    wrong_digit line c.split-at.result.1.now c.loop-i.i c.loop-i.n c.split-at.ensures.back (omega arith) letter space c.loop-i.invariant (omega arith) (inr (inl (omega arith)))
+    wrong_digit line c.split_at.result.1.now c.loop-i.i c.loop-i.n c.split_at.ensures.back (omega arith) letter space c.loop-i.invariant (omega arith) (inr (inl (omega arith)))
 
 pub returns-in-None : goal.returns-in-None
 returns-in-None c =
     let line = c.args.line.now in
-    let t = c.split-at.result.1.now in
+    let t = c.split_at.result.1.now in
     let letter = stands line 0 66 (sym c.has-lettered.ensures ∙ c.if-not-lettered.false) in
     let space = stands line 1 32 (sym c.has-spaced.ensures ∙ c.if-not-spaced.false) in
     let why = blocked_here t c.loop-i.i c.loop-i.n c.loop-i.invariant (omega arith) (sym c.lengthened.ensures ∙ c.in-None.is) in
-    wrong_digit line t c.loop-i.i c.loop-i.n c.split-at.ensures.back (omega arith) letter space c.loop-i.invariant (omega arith) why
+    wrong_digit line t c.loop-i.i c.loop-i.n c.split_at.ensures.back (omega arith) letter space c.loop-i.invariant (omega arith) why
 
 pub loop-i-preserved : goal.loop-i-preserved
 loop-i-preserved c =
-    begun_more c.split-at.result.1.now c.loop-i.i c.loop-i.n c.in-Some.more c.loop-i.invariant (omega arith) (omega arith) (sym c.lengthened.ensures ∙ c.in-Some.is)
+    begun_more c.split_at.result.1.now c.loop-i.i c.loop-i.n c.in-Some.more c.loop-i.invariant (omega arith) (omega arith) (sym c.lengthened.ensures ∙ c.in-Some.is)
 
 pub returns : goal.returns
 returns c =
     let line = c.args.line.now in
     let letter = stands line 0 66 (sym c.has-lettered.ensures ∙ c.if-not-lettered.false) in
     let space = stands line 1 32 (sym c.has-spaced.ensures ∙ c.if-not-spaced.false) in
-    all_read line c.split-at.result.1.now c.loop-i.i c.loop-i.n c.split-at.ensures.back (omega arith) letter space c.loop-i.invariant (omega arith)
+    all_read line c.split_at.result.1.now c.loop-i.i c.loop-i.n c.split_at.ensures.back (omega arith) letter space c.loop-i.invariant (omega arith)

@@ -12,5 +12,5 @@ returns-then-line-eq0 c = record { read = empty_wrong _ c.if-line-eq0.true; righ
 
 pub returns : goal.returns
 returns c =
-    let read = lined c.args.line.now c.from.result c.split-at.result.1.now (omega arith) c.from.ensures c.split-at.ensures.back (omega arith) c.body.result c.body.ensures in
+    let read = lined c.args.line.now c.from.result c.split_at.result.1.now (omega arith) c.from.ensures c.split_at.ensures.back (omega arith) c.body.result c.body.ensures in
     record { read = read; right = said_is_right; column = one_wrong; apart = wrong_right }

@@ -7,28 +7,28 @@ use Rattle.script.proofs.line.write.Goals as goal
 abbrev tail : List Part
 tail = one Space ∷ one Hex ∷ one Hex ∷ []
 
-pub returns-in-err-first : goal.returns-in-err-first
-returns-in-err-first c = handed_on _ _ _ _ c.from-residual.ensures.1 (fails_at c.in-err-first.ensures (one Hex ∷ one Hex ∷ tail))
+pub returns-in_err-first : goal.returns-in_err-first
+returns-in_err-first c = handed_on _ _ _ _ c.from_residual.ensures.1 (fails_at c.in_err-first.ensures (one Hex ∷ one Hex ∷ tail))
 
-pub returns-in-err-register : goal.returns-in-err-register
-returns-in-err-register c =
-    handed_on _ _ _ _ c.from-residual-in-err-register.ensures.1
-    (passed_on c.in-ok-first.ensures (one Hex ∷ one Hex ∷ tail) ∙ c.in-err-register.ensures.fails tail)
+pub returns-in_err-register : goal.returns-in_err-register
+returns-in_err-register c =
+    handed_on _ _ _ _ c.from_residual-in_err-register.ensures.1
+    (passed_on c.in_ok-first.ensures (one Hex ∷ one Hex ∷ tail) ∙ c.in_err-register.ensures.fails tail)
 
-pub returns-in-err-second : goal.returns-in-err-second
-returns-in-err-second c =
-    handed_on _ _ _ _ c.from-residual-in-err-second.ensures.1
-    (passed_on c.in-ok-first.ensures (one Hex ∷ one Hex ∷ tail) ∙ c.in-ok-register.ensures.on tail ∙ fails_at c.in-err-second.ensures (one Hex ∷ one Hex ∷ []))
+pub returns-in_err-second : goal.returns-in_err-second
+returns-in_err-second c =
+    handed_on _ _ _ _ c.from_residual-in_err-second.ensures.1
+    (passed_on c.in_ok-first.ensures (one Hex ∷ one Hex ∷ tail) ∙ c.in_ok-register.ensures.on tail ∙ fails_at c.in_err-second.ensures (one Hex ∷ one Hex ∷ []))
 
-pub returns-in-err-byte : goal.returns-in-err-byte
-returns-in-err-byte c =
-    handed_on _ _ _ _ c.from-residual-in-err-byte.ensures.1
-    (passed_on c.in-ok-first.ensures (one Hex ∷ one Hex ∷ tail) ∙ c.in-ok-register.ensures.on tail ∙ passed_on c.in-ok-second.ensures (one Hex ∷ one Hex ∷ []) ∙ c.in-err-byte.ensures.fails [])
+pub returns-in_err-byte : goal.returns-in_err-byte
+returns-in_err-byte c =
+    handed_on _ _ _ _ c.from_residual-in_err-byte.ensures.1
+    (passed_on c.in_ok-first.ensures (one Hex ∷ one Hex ∷ tail) ∙ c.in_ok-register.ensures.on tail ∙ passed_on c.in_ok-second.ensures (one Hex ∷ one Hex ∷ []) ∙ c.in_err-byte.ensures.fails [])
 
-pub returns-in-err-end : goal.returns-in-err-end
-returns-in-err-end c =
-    handed_on _ _ _ _ c.from-residual-in-err-end.ensures.1
-    (passed_on c.in-ok-first.ensures (one Hex ∷ one Hex ∷ tail) ∙ c.in-ok-register.ensures.on tail ∙ passed_on c.in-ok-second.ensures (one Hex ∷ one Hex ∷ []) ∙ c.in-ok-byte.ensures.on [] ∙ c.in-err-end.ensures)
+pub returns-in_err-end : goal.returns-in_err-end
+returns-in_err-end c =
+    handed_on _ _ _ _ c.from_residual-in_err-end.ensures.1
+    (passed_on c.in_ok-first.ensures (one Hex ∷ one Hex ∷ tail) ∙ c.in_ok-register.ensures.on tail ∙ passed_on c.in_ok-second.ensures (one Hex ∷ one Hex ∷ []) ∙ c.in_ok-byte.ensures.on [] ∙ c.in_err-end.ensures)
 
 pub returns : goal.returns
-returns c = write_whole c.in-ok-first.ensures c.in-ok-register.ensures c.in-ok-second.ensures c.in-ok-byte.ensures c.in-ok-end.ensures c.requires.second
+returns c = write_whole c.in_ok-first.ensures c.in_ok-register.ensures c.in_ok-second.ensures c.in_ok-byte.ensures c.in_ok-end.ensures c.requires.second

@@ -4,8 +4,8 @@ use Rattle.std.specs.Str.Parse.{digits_value}
 use Rattle.script.proofs.Values.{digit_at, value_step}
 use Rattle.script.proofs.reader.decimal.Goals as goal
 
-pub overflow-sub-byte : goal.overflow-sub-byte
-overflow-sub-byte c = (digit_at c.args.text.now c.loop-byte.byte-index c.requires.2 (omega arith)).0
+pub overflow_sub-byte : goal.overflow_sub-byte
+overflow_sub-byte c = (digit_at c.args.text.now c.loop-byte.byte-index c.requires.2 (omega arith)).0
 
 pub loop-byte-preserved : goal.loop-byte-preserved
 loop-byte-preserved c =

@@ -7,31 +7,31 @@ use Rattle.reading.specs.Reading.{ring_read}
 use Rattle.reading.proofs.Finished.{bits_read, still_hears, still_bits, still_told}
 use Rattle.reading.proofs.parts.Parts.read.Goals as goal
 
-pub read-ring-requires : goal.read-ring-requires
-read-ring-requires g c =
+pub read_ring-requires : goal.read_ring-requires
+read_ring-requires g c =
     let m : Meaning = g.R.Rig.meaning c.args.rig.now in
-    let all = c.in-ok-registers.ensures in
+    let all = c.in_ok-registers.ensures in
     record {
       answers = ap (λ x. hears x c.args.address) all.2 ∙ all.1;
-      bits = bits_read m c.in-ok-registers.registers all.0 ∙ ap (λ x. setting x.part.settings 0x3F) (sym all.2);
+      bits = bits_read m c.in_ok-registers.registers all.0 ∙ ap (λ x. setting x.part.settings 0x3F) (sym all.2);
     }
 
-pub read-ring-requires-2 : goal.read-ring-requires-2
-read-ring-requires-2 g c =
+pub read_ring-requires-2 : goal.read_ring-requires-2
+read_ring-requires-2 g c =
     let m : Meaning = g.R.Rig.meaning c.args.rig.now in
-    let all = c.in-ok-registers.ensures in
-    let then = c.in-ok-voltage.ensures.1 ∙ ap (λ x. ring_read x Voltage) all.2 in
+    let all = c.in_ok-registers.ensures in
+    let then = c.in_ok-voltage.ensures.1 ∙ ap (λ x. ring_read x Voltage) all.2 in
     record {
       answers = ap (λ x. hears x c.args.address) then ∙ still_hears m c.args.address Voltage all.1;
-      bits = bits_read m c.in-ok-registers.registers all.0 ∙ sym (still_bits m Voltage) ∙ ap (λ x. setting x.part.settings 0x3F) (sym then);
+      bits = bits_read m c.in_ok-registers.registers all.0 ∙ sym (still_bits m Voltage) ∙ ap (λ x. setting x.part.settings 0x3F) (sym then);
     }
 
 pub returns : goal.returns
 returns g c =
     let m : Meaning = g.R.Rig.meaning c.args.rig.now in
-    let all = c.in-ok-registers.ensures in
-    let v = c.in-ok-voltage.ensures in
-    let i = c.in-ok-current.ensures in
+    let all = c.in_ok-registers.ensures in
+    let v = c.in_ok-voltage.ensures in
+    let i = c.in_ok-current.ensures in
     let then = v.1 ∙ ap (λ x. ring_read x Voltage) all.2 in (
       all.0,
       v.0 ∙ ap (λ x. ring_told x.part Voltage) all.2,

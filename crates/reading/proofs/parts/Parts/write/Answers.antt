@@ -10,4 +10,4 @@ returns c =
     let k : length c.args.self.now.registers ≡ 70 = search rules in
     let v = length_words c.args.self.now.voltage in
     let w = length_words c.args.self.now.current in
-    three_parts c.args.report.now c.copy-from-slice.new.self c.write-samples.new.out c.write-samples-2.new.out c.args.self.now.registers (words c.args.self.now.voltage) (words c.args.self.now.current) (search rules) k (omega arith) (omega arith) c.copy-from-slice.ensures.after c.write-samples.ensures c.write-samples-2.ensures
+    three_parts c.args.report.now c.copy_from_slice.new.self c.write_samples.new.out c.write_samples-2.new.out c.args.self.now.registers (words c.args.self.now.voltage) (words c.args.self.now.current) (search rules) k (omega arith) (omega arith) c.copy_from_slice.ensures.after c.write_samples.ensures c.write_samples-2.ensures

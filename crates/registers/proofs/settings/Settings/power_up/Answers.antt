@@ -3,13 +3,14 @@ use Rattle.registers.proofs.Kept.{held_first}
 use Rattle.registers.proofs.Tables.{filled_in, resets_within}
 use Rattle.registers.proofs.settings.Settings.power_up.Goals as goal
 
-pub invariant-of-result : goal.invariant-of-result
+pub invariant_of-result : goal.invariant_of-result
 unfolding reset_of
-invariant-of-result c = (held_first c.args.pins.now _ (filled_in c.args.pins.now _ _ c.range-bits.ensures c.enable-bits.ensures), tt)
+invariant_of-result c =
+    record { held = held_first c.args.pins.now _ (filled_in c.args.pins.now _ _ c.range_bits.ensures c.enable_bits.ensures) }
 
 pub returns : goal.returns
 unfolding reset_of
 returns c = record {
-  bytes = filled_in c.args.pins.now _ _ c.range-bits.ensures c.enable-bits.ensures;
+  bytes = filled_in c.args.pins.now _ _ c.range_bits.ensures c.enable_bits.ensures;
   within = resets_within;
 }

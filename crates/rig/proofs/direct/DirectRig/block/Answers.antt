@@ -10,15 +10,15 @@ use Rattle.rig.specs.Refusals.{told}
 use Rattle.rig.proofs.Bus.{unheard, heard, block_accepted, block_answered, block_left}
 use Rattle.rig.proofs.direct.DirectRig.block.Goals as goal
 
-pub returns-in-err-acknowledge : goal.returns-in-err-acknowledge
-returns-in-err-acknowledge c =
+pub returns-in_err-acknowledge : goal.returns-in_err-acknowledge
+returns-in_err-acknowledge c =
     let m = direct_meaning c.args.self.now in
     let n = direct_meaning c.acknowledge.new.self in
     let k = length c.args.out.now in
     let fits : sized (length c.args.out.now) ≡ true = search rules in
     let ring : ring_base c.args.base ≡ true = search rules in
-    let no = unheard m c.args.address _ c.in-err-acknowledge.ensures.answers in
-    let e = err_from_is_err_and c.from-residual.result c.from-residual.ensures.1 in
+    let no = unheard m c.args.address _ c.in_err-acknowledge.ensures.answers in
+    let e = err_from_is_err_and c.from_residual.result c.from_residual.ensures.1 in
     record {
       answers = ap (told (λ _. bytes c.args.out.now)) e.1 ∙ ap refused (e.2 ∙ no.1) ∙ sym (block_answered m n c.args.address c.args.base k fits ring false no.0);
       after = block_left m n c.args.address c.args.base k fits ring false no.0 c.acknowledge.ensures.part c.acknowledge.ensures.owed;
@@ -32,7 +32,7 @@ returns c =
     let fits : sized (length c.args.out.now) ≡ true = search rules in
     let ring : ring_base c.args.base ≡ true = search rules in
     let signal : c.in-Some.signal ≡ ring_at c.args.base = search rules in
-    let on = heard m c.args.address c.in-ok-acknowledge.ensures.answers in
+    let on = heard m c.args.address c.in_ok-acknowledge.ensures.answers in
     let n : Meaning = record { part = model c.block.new.self; owed = c.acknowledge.new.self.owed } in
     let read : c.block.new.out ≡ block_of m.part c.args.base (length c.args.out.now) =
     c.block.ensures.bytes

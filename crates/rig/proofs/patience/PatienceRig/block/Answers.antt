@@ -6,8 +6,8 @@ use Rattle.rig.specs.Refusals.{silent}
 use Rattle.rig.proofs.Waits.{filled_alike, unmet, waited_done, waited_all}
 use Rattle.rig.proofs.patience.PatienceRig.block.Goals as goal
 
-pub returns-then-not-met-silence : goal.returns-then-not-met-silence
-returns-then-not-met-silence g c =
+pub returns-then-not-met_silence : goal.returns-then-not-met_silence
+returns-then-not-met_silence g c =
     let m = g.R.Rig.meaning c.args.self.now.below in
     let n = g.R.Rig.meaning c.loop.self.below in
     let call : Call = block c.args.address c.args.base (length c.args.out.now) in

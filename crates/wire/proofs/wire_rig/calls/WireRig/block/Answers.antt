@@ -7,24 +7,24 @@ use Rattle.wire.specs.Rests.{meaning_of}
 use Rattle.wire.proofs.Calls.{said_ok, said_err, was_err, block_frames, filled_done, filled_refused}
 use Rattle.wire.proofs.wire_rig.calls.WireRig.block.Goals as goal
 
-pub invariant-of-self : goal.invariant-of-self
-invariant-of-self c =
+pub invariant_of-self : goal.invariant_of-self
+invariant_of-self c =
     let fits : sized (length c.read.new.into) ≡ true = search rules in
     let ring : ring_base c.args.base ≡ true = search rules in
     let m = block_frames c.args.self.now.receiver c.read.new.bus c.args.address c.args.base c.read.new.into c.read.result c.args.self.now.rests fits ring c.read.ensures.bytes c.read.ensures.unsent c.read.ensures.run in
     (m.rested, tt)
 
-pub returns-in-err-acknowledged : goal.returns-in-err-acknowledged
-returns-in-err-acknowledged c =
+pub returns-in_err-acknowledged : goal.returns-in_err-acknowledged
+returns-in_err-acknowledged c =
     let fits : sized (length c.read.new.into) ≡ true = search rules in
     let sized_out : sized (length c.args.out.now) ≡ true = search rules in
     let ring : ring_base c.args.base ≡ true = search rules in
-    let same : c.read.new.into ≡ c.args.out.now = c.read.ensures.kept (was_err c.read.result _ c.in-err-acknowledged.ensures) in
+    let same : c.read.new.into ≡ c.args.out.now = c.read.ensures.kept (was_err c.read.result _ c.in_err-acknowledged.ensures) in
     let v = view c.args.self.now.receiver in
     let m = block_frames c.args.self.now.receiver c.read.new.bus c.args.address c.args.base c.read.new.into c.read.result c.args.self.now.rests fits ring c.read.ensures.bytes c.read.ensures.unsent c.read.ensures.run in
-    let e = err_from_is_err_and c.from-residual.result c.from-residual.ensures.1 in
-    let silent : refused c.in-err-acknowledged.field-0.0 ≡ answer (meaning_of v) (block c.args.address c.args.base (length c.args.out.now)) =
-    sym (said_err c.read.result (bytes c.read.new.into) _ c.in-err-acknowledged.ensures) ∙ m.answers ∙ ap (λ xs. answer (meaning_of v) (block c.args.address c.args.base (length xs))) same in
+    let e = err_from_is_err_and c.from_residual.result c.from_residual.ensures.1 in
+    let silent : refused c.in_err-acknowledged.field-0.0 ≡ answer (meaning_of v) (block c.args.address c.args.base (length c.args.out.now)) =
+    sym (said_err c.read.result (bytes c.read.new.into) _ c.in_err-acknowledged.ensures) ∙ m.answers ∙ ap (λ xs. answer (meaning_of v) (block c.args.address c.args.base (length xs))) same in
     record {
       answers = ap (told (λ _. bytes c.read.new.into)) e.1 ∙ ap refused e.2 ∙ silent;
       after = m.after ∙ ap (λ xs. next (meaning_of v) (block c.args.address c.args.base (length xs))) same;
@@ -40,7 +40,7 @@ returns c =
     let v = view c.args.self.now.receiver in
     let m = block_frames c.args.self.now.receiver c.read.new.bus c.args.address c.args.base c.read.new.into c.read.result c.args.self.now.rests fits ring c.read.ensures.bytes c.read.ensures.unsent c.read.ensures.run in
     let heard : bytes c.read.new.into ≡ answer (meaning_of v) (block c.args.address c.args.base (length c.args.out.now)) =
-    sym (said_ok c.read.result (bytes c.read.new.into) _ c.in-ok-acknowledged.ensures) ∙ m.answers ∙ ap (λ n. answer (meaning_of v) (block c.args.address c.args.base n)) len in
+    sym (said_ok c.read.result (bytes c.read.new.into) _ c.in_ok-acknowledged.ensures) ∙ m.answers ∙ ap (λ n. answer (meaning_of v) (block c.args.address c.args.base n)) len in
     record {
       answers = heard;
       after = m.after ∙ ap (λ n. next (meaning_of v) (block c.args.address c.args.base n)) len;
