@@ -12,7 +12,7 @@ invariant_of-self c =
     let fits : sized (length c.read.new.into) ≡ true = search rules in
     let ring : ring_base c.args.base ≡ true = search rules in
     let m = block_frames c.args.self.now.receiver c.read.new.bus c.args.address c.args.base c.read.new.into c.read.result c.args.self.now.rests fits ring c.read.ensures.bytes c.read.ensures.unsent c.read.ensures.run in
-    (m.rested, tt)
+    record { rests = m.rested }
 
 pub returns-in_err-acknowledged : goal.returns-in_err-acknowledged
 returns-in_err-acknowledged c =

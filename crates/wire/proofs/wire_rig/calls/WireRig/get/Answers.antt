@@ -8,7 +8,7 @@ use Rattle.wire.proofs.wire_rig.calls.WireRig.get.Goals as goal
 pub invariant_of-self : goal.invariant_of-self
 invariant_of-self c =
     let m = get_frames c.args.self.now.receiver c.read.new.bus c.args.address c.args.register c.read.new.into c.read.result c.args.self.now.rests (omega arith) (search rules) c.read.ensures.bytes c.read.ensures.unsent c.read.ensures.run in
-    (m.rested, tt)
+    record { rests = m.rested }
 
 pub returns-in_err-acknowledged : goal.returns-in_err-acknowledged
 returns-in_err-acknowledged c =

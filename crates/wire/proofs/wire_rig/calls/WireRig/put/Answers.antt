@@ -8,7 +8,7 @@ use Rattle.wire.proofs.wire_rig.calls.WireRig.put.Goals as goal
 pub invariant_of-self : goal.invariant_of-self
 invariant_of-self c =
     let m = put_frames c.args.self.now.receiver c.put.new.bus c.args.address c.args.register c.args.byte c.put.result c.args.self.now.rests (omega arith) (omega arith) c.put.ensures.unsent c.put.ensures.run in
-    (m.rested, tt)
+    record { rests = m.rested }
 
 pub returns-in_err-acknowledged : goal.returns-in_err-acknowledged
 returns-in_err-acknowledged c =
