@@ -46,9 +46,9 @@ pub(crate) fn registers<R: Rig>(rt: &impl Print, rig: &mut R, address: u8) -> Re
 
 fn cell(rt: &impl Print, number: u8, byte: u8) -> io::Result<()> {
     if number % 8 == 0 {
-        print!(rt, "    {number:02X}:")?;
+        print!(rt; "    {number:02X}:")?;
     }
-    print!(rt, " {byte:02X}")?;
+    print!(rt; " {byte:02X}")?;
     if number % 8 == 7 {
         println!(rt)?;
     }
@@ -71,9 +71,9 @@ pub(crate) fn content(rt: &impl Print, ring: &Ring) -> io::Result<()> {
     for (k, sample) in content.iter().enumerate() {
         let value = sample.value();
         if k % 10 == 0 {
-            print!(rt, "   ")?;
+            print!(rt; "   ")?;
         }
-        print!(rt, " {value:4}")?;
+        print!(rt; " {value:4}")?;
         if k % 10 == 9 {
             println!(rt)?;
         }
@@ -86,9 +86,9 @@ pub(crate) fn bytes(rt: &impl Print, title: &str, bytes: &[u8]) -> io::Result<()
     println!(rt; "  {title}")?;
     for (k, byte) in bytes.iter().enumerate() {
         if k % 20 == 0 {
-            print!(rt, "   ")?;
+            print!(rt; "   ")?;
         }
-        print!(rt, " {byte:02X}")?;
+        print!(rt; " {byte:02X}")?;
         if k % 20 == 19 {
             println!(rt)?;
         }

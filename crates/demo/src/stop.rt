@@ -2,7 +2,7 @@
 use rig::Refusal;
 use std::io;
 
-#[derive(Drop)]
+#[derive(Debug, Drop)]
 pub enum Stop {
     Io(io::Error),
     Refused(Refusal),

@@ -17,7 +17,7 @@ use report::REPORT_BYTES;
 use rig::{Refusal, Rig};
 
 /// Why there is no report.
-#[derive(Clone, Copy)]
+#[derive(Clone, Copy, Debug)]
 pub enum ReadingFault {
     /// The buffer does not have the bytes of a report.
     Size,

@@ -3,7 +3,7 @@ use reading::ReadingFault;
 use rig::Refusal;
 use std::io;
 
-#[derive(Drop)]
+#[derive(Debug, Drop)]
 pub enum Stop {
     Io(io::Error),
     Refused(Refusal),

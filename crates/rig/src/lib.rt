@@ -20,7 +20,7 @@ use samples::sample::Sample;
 use samples::signal::Signal;
 
 /// Why a rig refuses a call. The tests run in the order of the cases.
-#[derive(Clone, Copy, PartialEq, Eq)]
+#[derive(Clone, Copy, PartialEq, Eq, Debug)]
 pub enum Refusal {
     /// A sample above full scale; the current is tested first.
     Sample(Signal),

@@ -1,6 +1,6 @@
 //! The two signals that are sampled.
 
-#[derive(Clone, Copy, PartialEq, Eq)]
+#[derive(Clone, Copy, PartialEq, Eq, Debug)]
 pub enum Signal {
     Current,
     Voltage,
