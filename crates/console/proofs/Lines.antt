@@ -1,5 +1,5 @@
 -- A line says one thing.
-use Rattle.std.proofs.Common.{◌≡◌, ℕ, List, Ok, Err, Result, sym, refl, ap, ◌∙◌}
+use Rattle.std.proofs.Common.{◌≡◌, ℕ, List, Ok, Err, Result, sym, ap, ◌∙◌}
 use Rattle.script.specs.declared.command.Command.{Command}
 use Rattle.script.proofs.Stands.{wrong_right, one_wrong, first_wrong_right, first_one_wrong}
 use Rattle.console.specs.Answering.{Reads}

@@ -1,5 +1,5 @@
 -- What the console answers to a line, and what it leaves.
-use Rattle.std.specs.Prelude.{◌≡◌, ℕ, ◌+◌, ◌≤◌, Bool, cond, List, length, Ok, Err, codes, Result, MatchResult, ◌==◌, nat_lt}
+use Rattle.std.specs.Prelude.{◌≡◌, ℕ, ◌+◌, Bool, cond, List, length, Ok, Err, codes, Result, MatchResult, ◌==◌, nat_lt}
 use Rattle.rig.specs.Meaning.{Meaning}
 use Rattle.answers.specs.Text.{byte_text, report_text, refusal_text, at_front}
 use Rattle.script.specs.Grammar.{Right, Wrong}

@@ -11,7 +11,7 @@ use Rattle.reading.specs.Reading.{read_next}
 use Rattle.script.specs.declared.command.Command.{Command}
 use Rattle.script.specs.declared.command.Command.TheVariants.{Tick, On, Pol, Fast, Slow, Put, Get, Read}
 use Rattle.console.specs.declared.fault.Cause.{Cause}
-use Rattle.console.specs.declared.fault.Cause.TheVariants.{Form, Reading}
+use Rattle.console.specs.declared.fault.Cause.TheVariants.{Reading}
 
 pub data Outcome : Type 0 where
   done : Outcome

@@ -1,5 +1,5 @@
 -- The part that a history reaches has the history's points.
-use Rattle.std.proofs.Common.{◌≡◌, ℕ, ◌-◌, ◌<◌, Bool, true, false, cond, ◌&&◌, eqb, List, [], ◌∷◌, ◌++◌, sym, refl, ap, ◌∙◌}
+use Rattle.std.proofs.Common.{◌≡◌, ℕ, ◌-◌, ◌<◌, Bool, true, false, cond, eqb, List, [], ◌∷◌, sym, refl, ap, ◌∙◌}
 use mathlib.Core.Path.{subst⁻¹}
 use lib.Bits.{bit_and, and_zero_r}
 use Rattle.std.proofs.lemmas.Bool.{both_ways, ne_eqb}
@@ -12,7 +12,7 @@ use Rattle.registers.specs.Causes.{has}
 use Rattle.registers.specs.Questions.{setting}
 use Rattle.registers.specs.Settings.{first_byte}
 use Rattle.part.specs.declared.events.Pin.{Pin}
-use Rattle.part.specs.Model.{Model, powered, monitor, address}
+use Rattle.part.specs.Model.{monitor, address}
 use Rattle.part.specs.Events as part
 use Rattle.rig.specs.Meaning.{Meaning}
 use Rattle.part.specs.Runs.{after, setting_of, level, stored, ring_of, counted, ExtremesOf}

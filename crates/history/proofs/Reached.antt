@@ -1,10 +1,8 @@
 -- The part that a history reaches is the one that its events lead to, and the debt is what the calls have left of it.
-use Rattle.std.proofs.Common.{◌≡◌, ℕ, ◌+◌, ◌-◌, ◌<◌, ◌≤◌, Bool, true, false, cond, ◌&&◌, eqb, leb, List, [], ◌∷◌, ◌++◌, sym, refl, ap, ◌∙◌, inl, inr, arith}
-use Rattle.std.proofs.lemmas.Bool.{cases_Bool, cases_eq, eq-eqb, ne_eqb, leb-true, leb-false, le-leb, lt-leb}
+use Rattle.std.proofs.Common.{◌≡◌, ℕ, ◌+◌, ◌-◌, Bool, true, false, cond, ◌&&◌, eqb, leb, List, [], ◌∷◌, ◌++◌, refl, ap, ◌∙◌, arith}
 use Rattle.std.proofs.lemmas.Bool.Decides.{nat_tests}
 use Rattle.registers.specs.declared.pins.Pins.{Pins}
 use Rattle.registers.specs.Pins.{address_of}
-use Rattle.part.specs.declared.events.Pin.{Pin}
 use Rattle.part.specs.declared.events.Pin.TheVariants.{On, Pol}
 use Rattle.part.specs.Model.{Model, powered, address}
 use Rattle.part.specs.Events as part

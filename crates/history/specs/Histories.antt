@@ -1,5 +1,5 @@
 -- A history of a rig: what it started from, and every call tried on it since, done or refused; and what happened to its part by that.
-use Rattle.std.specs.Prelude.{◌≡◌, ℕ, ◌+◌, ◌≤◌, Bool, true, cond, ◌&&◌, List, [], ◌∷◌, ◌++◌, nat_le}
+use Rattle.std.specs.Prelude.{ℕ, ◌+◌, ◌≤◌, Bool, true, cond, ◌&&◌, List, [], ◌∷◌, ◌++◌, nat_le}
 use Rattle.registers.specs.declared.pins.Pins.{Pins}
 use Rattle.part.specs.Model.{powered}
 use Rattle.part.specs.Events as part

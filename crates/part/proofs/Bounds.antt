@@ -1,5 +1,5 @@
 -- What a part shows are bytes, by the types of what it holds.
-use Rattle.std.proofs.Common.{◌≡◌, ℕ, ◌+◌, ◌/◌, ◌%◌, ◌<◌, ◌≤◌, Bool, true, false, cond, eqb, arith, lit<, lit≤}
+use Rattle.std.proofs.Common.{ℕ, ◌+◌, ◌/◌, ◌%◌, ◌<◌, ◌≤◌, Bool, cond, eqb, arith, lit≤}
 use Rattle.std.proofs.lemmas.Bool.{cond_both}
 use Rattle.samples.specs.History.{byte_at}
 use Rattle.samples.proofs.Bounds.{byte_below}
@@ -14,7 +14,7 @@ use Rattle.registers.specs.Questions.{resolution}
 use Rattle.registers.proofs.Kept.{setting_fits}
 use Rattle.part.specs.declared.Part.{Part}
 use Rattle.part.specs.Model.{model, monitor}
-use Rattle.part.specs.Shown.{prot_bits, byte_of, shown}
+use Rattle.part.specs.Shown.{prot_bits, shown}
 
 either : (b : Bool) (x y : ℕ) → x < 256 → y < 256 → cond b x y < 256
 either b x y p q = cond_both b x y (λ n. n < 256) (λ _. p) (λ _. q)

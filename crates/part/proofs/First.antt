@@ -1,12 +1,11 @@
 -- The registers at power-up, all seventy at once.
-use Rattle.std.proofs.Common.{◌≡◌, ℕ, ◌<◌, map, get_or, sym, refl, ap, ◌∙◌, arith}
+use Rattle.std.proofs.Common.{◌≡◌, map, get_or, sym, refl, ap, ◌∙◌, arith}
 use mathlib.Core.Path.{subst⁻¹}
 use Rattle.std.specs.List.{range_with_len}
 use Rattle.std.proofs.lemmas.List.FromFn.{get_or-map-range_with_len}
 use Rattle.registers.specs.declared.pins.Pins.{Pins}
 use Rattle.registers.specs.declared.pins.Level.{Level}
 use Rattle.registers.specs.declared.pins.Level.TheVariants.{Low, High}
-use Rattle.registers.specs.declared.pins.Strap.{Strap}
 use Rattle.registers.specs.Rows.{reset_of}
 use Rattle.registers.specs.Questions.{setting}
 use Rattle.registers.specs.Settings.{first_bytes}

@@ -1,32 +1,30 @@
 -- The part that a run of events leads to is as the run says.
-use Rattle.std.proofs.Common.{◌≡◌, ℕ, ◌+◌, ◌-◌, ◌%◌, ◌<◌, ◌≤◌, Bool, true, false, cond, not, ◌&&◌, ◌||◌, eqb, ltb, leb, List, [], ◌∷◌, ◌++◌, map, reverse, length, get_or, take, sym, refl, ap, ◌∙◌, ⊎_elim, arith, lit≤}
+use Rattle.std.proofs.Common.{◌≡◌, ℕ, ◌+◌, ◌%◌, ◌<◌, ◌≤◌, Bool, true, false, cond, not, ◌&&◌, ◌||◌, eqb, ltb, leb, List, [], ◌∷◌, map, reverse, length, get_or, take, sym, refl, ap, ◌∙◌, ⊎_elim, arith, lit≤}
 use mathlib.Core.Path.{subst⁻¹}
 use Rattle.std.proofs.lemmas.List.{map_more, reverse-append, take_all}
-use Rattle.std.specs.List.{range_with_len}
 use Rattle.std.proofs.lemmas.List.FromFn.{get_or-map-range_with_len, length-map-range_with_len}
 use Rattle.std.proofs.lemmas.Bool.{both_ways, cond-true, and_parts, or_cases, cases_Bool, leb-true, ltb-true, ltb-false, cond_both, cond-false}
-use Rattle.std.proofs.lemmas.Bool.Decides.{nat_tests}
 use Rattle.samples.specs.declared.signal.Signal.{Signal}
 use Rattle.samples.specs.declared.signal.Signal.TheVariants.{Current, Voltage}
 use Rattle.registers.specs.declared.pins.Level.{Level}
 use Rattle.registers.specs.declared.pins.Pins.{Pins}
 use Rattle.registers.specs.declared.causes.Trip.{Trip}
 use Rattle.registers.specs.declared.causes.Compare.{Compare}
-use Rattle.registers.specs.declared.causes.Compare.TheVariants.{Uv1, Uv2, Ov1, Ov2, Oi}
+use Rattle.registers.specs.declared.causes.Compare.TheVariants.{Uv2, Ov2}
 use Rattle.registers.specs.declared.causes.Cause.{Cause}
 use Rattle.registers.specs.Causes.{has}
-use Rattle.registers.specs.Questions.{setting, good_delay, stop_delay, deglitches}
+use Rattle.registers.specs.Questions.{setting, good_delay, stop_delay}
 use Rattle.registers.specs.Settings.{first_byte, first_bytes}
 use Rattle.part.specs.declared.events.Pin.{Pin}
 use Rattle.part.specs.declared.events.Pin.TheVariants.{On, Pol}
 use Rattle.part.specs.declared.monitor.RingState.{RingState}
 use Rattle.part.specs.Monitors.{Monitored}
 use Rattle.part.specs.Model.{Model, powered, monitor, sample}
-use Rattle.part.specs.Channel.{majority, channel, falls, turns_on, turns_off, forgets, settled_monitor, settled_signal, settled_by, settled}
-use Rattle.part.specs.Tick.{lesser, greater, counts, stores, sampled, measured, positive, acts, critical, latches, guards, beyond, good_tick, next_count, next_good, logs_at}
-use Rattle.part.specs.Events.{Event, tick, pin, trip, write, block, step, pinned, tripped, overwritten, restarted, halted, blocked, with_state, trips, cleared_by}
+use Rattle.part.specs.Channel.{majority, channel, falls, turns_on, turns_off, forgets, settled_monitor, settled_signal, settled}
+use Rattle.part.specs.Tick.{lesser, greater, counts, stores, sampled, measured, positive, acts, critical, latches, beyond, good_tick, next_count, next_good, logs_at}
+use Rattle.part.specs.Events.{Event, tick, pin, trip, write, block, step, pinned, tripped, overwritten, restarted, blocked, with_state, trips, cleared_by}
 use Rattle.part.specs.declared.replay.Event.{Event as Given}
-use Rattle.part.specs.Runs.{ran, after, told, history, setting_of, level, same_pin, level_of, latest_of, stored, ring_of, counted_with, counted, least, greatest, ExtremesOf, logs_by, wipes, logged, Laws}
+use Rattle.part.specs.Runs.{ran, after, told, history, setting_of, level, same_pin, level_of, latest_of, stored, ring_of, counted_with, counted, least, greatest, logs_by, wipes, logged, Laws}
 use Rattle.part.proofs.Steps.{monitor_next, monitor_step, ring_more, setting_written, settings_length, settled_channel, settled_majority, settled_forgets, never_falls, still_forgets, flag_kept, has_logs}
 
 -- ---- an extreme of a signal is a figure f of the samples counted

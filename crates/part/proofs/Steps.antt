@@ -1,25 +1,24 @@
 -- One event, seen through one view of the part.
-use Rattle.std.proofs.Common.{◌≡◌, ℕ, ◌+◌, ◌-◌, ◌<◌, ◌≤◌, Bool, true, false, cond, not, ◌&&◌, ◌||◌, eqb, ltb, leb, List, [], ◌∷◌, ◌++◌, length, get_or, drop, set, replicate, sym, refl, ap, ◌∙◌, inl, inr, append_assoc, arith, length-append, length-set}
+use Rattle.std.proofs.Common.{◌≡◌, ℕ, ◌+◌, ◌-◌, ◌<◌, ◌≤◌, Bool, true, false, cond, not, ◌&&◌, ◌||◌, eqb, List, [], ◌∷◌, ◌++◌, length, drop, set, replicate, sym, refl, ap, ◌∙◌, inl, inr, append_assoc, arith, length-append, length-set}
 use mathlib.Core.Bool.{and-not_self}
 use lib.Bits.{bit_and}
 use Rattle.std.proofs.lemmas.List.{drop-append-le, drop-drop, length-drop, get_or-set_same, get_or-set_other}
-use Rattle.std.proofs.lemmas.Bool.{cases_eq, eq-eqb, ne_eqb, both_ways, and_parts, or_cases, cond-true, cond_both, leb-true}
+use Rattle.std.proofs.lemmas.Bool.{cases_eq, eq-eqb, ne_eqb, both_ways}
 use Rattle.samples.specs.History.{pushed, last_fifty}
 use Rattle.samples.specs.declared.signal.Signal.{Signal}
 use Rattle.samples.specs.declared.signal.Signal.TheVariants.{Current, Voltage}
 use Rattle.registers.specs.declared.causes.Trip.TheVariants.{Fast, Slow}
-use Rattle.registers.specs.declared.causes.Compare.{Compare}
 use Rattle.registers.specs.declared.causes.Compare.TheVariants.{Uv1, Uv2, Ov1, Ov2, Oi}
 use Rattle.registers.specs.declared.causes.Cause.{Cause}
 use Rattle.registers.specs.declared.causes.Cause.TheVariants as cause
 use Rattle.registers.specs.Rows.{mask_of}
 use Rattle.registers.specs.Causes.{has, logs}
-use Rattle.registers.specs.Questions.{setting, resets, holds, stop_delay}
+use Rattle.registers.specs.Questions.{setting, resets, holds}
 use Rattle.part.specs.Monitors.{Monitored}
 use Rattle.part.specs.Model.{Model, monitor, sample}
-use Rattle.part.specs.Channel.{majority, channel, falls, turns_on, turns_off, forgets, settled_signal, settled_by, settled}
+use Rattle.part.specs.Channel.{majority, channel, falls, forgets, settled_signal, settled_by}
 use Rattle.part.specs.Tick.{sampled, measured}
-use Rattle.part.specs.Events.{Event, tick, pin, trip, write, block, step, pinned, tripped, overwritten, restarted, halted, blocked}
+use Rattle.part.specs.Events.{Event, tick, pin, trip, write, block, step, pinned, tripped, overwritten, restarted, halted}
 use Rattle.part.specs.Runs.{ring_of}
 
 -- ---- each event, signal by signal

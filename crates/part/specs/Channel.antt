@@ -4,7 +4,6 @@ use Rattle.samples.specs.declared.signal.Signal.{Signal}
 use Rattle.samples.specs.declared.signal.Signal.TheVariants.{Current, Voltage}
 use Rattle.registers.specs.Pins.{high}
 use Rattle.registers.specs.Questions.{en1, en2, resets, holds, stop_delay}
-use Rattle.registers.specs.declared.causes.Cause.{Cause}
 use Rattle.registers.specs.Causes.{has, logs}
 use Rattle.part.specs.declared.monitor.RingState.{RingState}
 use Rattle.part.specs.declared.monitor.RingState.TheVariants.{Running, CountingDown, Stopped}

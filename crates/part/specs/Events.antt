@@ -6,7 +6,6 @@ use Rattle.registers.specs.declared.pins.Level.{Level}
 use Rattle.registers.specs.declared.pins.Pins.{Pins}
 use Rattle.registers.specs.declared.causes.Trip.{Trip}
 use Rattle.registers.specs.declared.causes.Trip.TheVariants.{Fast, Slow}
-use Rattle.registers.specs.declared.causes.Compare.{Compare}
 use Rattle.registers.specs.declared.causes.Compare.TheVariants.{Uv1, Uv2, Ov1, Ov2, Oi}
 use Rattle.registers.specs.declared.causes.Cause.{Cause}
 use Rattle.registers.specs.declared.causes.Cause.TheVariants as cause

@@ -3,7 +3,7 @@ use Rattle.std.specs.Prelude.{ℕ, List, replicate}
 use Rattle.samples.specs.History.{content}
 use Rattle.part.specs.declared.monitor.Monitor.{Monitor}
 use Rattle.part.specs.declared.monitor.RingState.{RingState}
-use Rattle.part.specs.declared.monitor.RingState.TheVariants.{Running, CountingDown, Stopped}
+use Rattle.part.specs.declared.monitor.RingState.TheVariants.{Running}
 
 -- the ring is its fifty samples, the oldest first
 pub record Monitored : Type 0 where

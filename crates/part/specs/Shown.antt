@@ -1,5 +1,5 @@
 -- What the part shows: its registers and its output pins.
-use Rattle.std.specs.Prelude.{◌≡◌, ℕ, ◌+◌, ◌/◌, ◌%◌, ◌<◌, Bool, cond, not, Some, None, Option, ◌==◌, nat_lt}
+use Rattle.std.specs.Prelude.{◌≡◌, ℕ, ◌+◌, ◌/◌, ◌%◌, ◌<◌, cond, not, Some, None, Option, ◌==◌, nat_lt}
 use Rattle.registers.specs.declared.pins.Strap.{Strap}
 use Rattle.registers.specs.declared.pins.Strap.TheVariants.{Low, High, Open}
 use Rattle.registers.specs.declared.pins.Pins.{Pins}

@@ -1,11 +1,10 @@
 -- One tick: a current sample i and a voltage sample v, in seven steps.
-use Rattle.std.specs.Prelude.{ℕ, ◌+◌, ◌-◌, Bool, true, false, cond, not, ◌&&◌, ◌||◌, List, nat_le, nat_lt}
+use Rattle.std.specs.Prelude.{ℕ, ◌+◌, ◌-◌, Bool, true, false, cond, not, ◌&&◌, ◌||◌, nat_le, nat_lt}
 use Rattle.samples.specs.History.{pushed}
 use Rattle.samples.specs.declared.signal.Signal.{Signal}
 use Rattle.samples.specs.declared.signal.Signal.TheVariants.{Current, Voltage}
 use Rattle.registers.specs.declared.pins.Strap.{Strap}
 use Rattle.registers.specs.declared.pins.Strap.TheVariants.{Low, High, Open}
-use Rattle.registers.specs.declared.causes.Trip.{Trip}
 use Rattle.registers.specs.declared.causes.Compare.{Compare}
 use Rattle.registers.specs.declared.causes.Compare.TheVariants.{Uv1, Uv2, Ov1, Ov2, Oi}
 use Rattle.registers.specs.declared.causes.Cause.{Cause}

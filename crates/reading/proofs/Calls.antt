@@ -1,11 +1,11 @@
 -- A get and a block of a reading, by whether the part listens.
-use Rattle.std.proofs.Common.{◌≡◌, ℕ, ◌-◌, ◌<◌, ◌≤◌, Bool, true, false, cond, ◌&&◌, eqb, leb, List, sym, refl, ap, ◌∙◌, ⊎_elim, arith}
+use Rattle.std.proofs.Common.{◌≡◌, ℕ, ◌-◌, ◌<◌, Bool, true, false, cond, ◌&&◌, eqb, leb, sym, refl, ap, ◌∙◌, ⊎_elim, arith}
 use Rattle.std.proofs.lemmas.Bool.{cases_Bool, le-leb, eqb-true, and_parts}
-use Rattle.part.specs.Model.{Model, address}
+use Rattle.part.specs.Model.{address}
 use Rattle.part.specs.Shown.{shown}
 use Rattle.rig.specs.declared.Refusal.{Refusal}
 use Rattle.rig.specs.declared.Refusal.TheVariants.{Register, Silence}
-use Rattle.rig.specs.Meaning.{Meaning, get, Answer, byte, refused, hears, bus_answer, answer, accepts, next}
+use Rattle.rig.specs.Meaning.{Meaning, get, byte, refused, hears, bus_answer, answer, accepts, next}
 use Rattle.rig.proofs.Bus.{same_meaning}
 
 pub either_same : {X : Type 0} (t : Bool) (x : X) → cond t x x ≡ x

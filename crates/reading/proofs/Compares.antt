@@ -1,14 +1,13 @@
 -- Two readings, one after the other, and what they say of two histories.
-use Rattle.std.proofs.Common.{◌≡◌, ℕ, Bool, true, false, cond, ◌&&◌, List, length, is_ok, Ok, Err, Decides, Result, sym, refl, ap, ◌∙◌, ⊎_elim, arith, MatchResult}
+use Rattle.std.proofs.Common.{◌≡◌, ℕ, Bool, true, false, cond, ◌&&◌, List, length, Ok, Err, Decides, sym, refl, ap, ◌∙◌, ⊎_elim, arith}
 use Rattle.std.proofs.lemmas.Bool.{cases_Bool, and_parts, and_from}
 use Rattle.rig.specs.declared.Refusal.TheVariants.{Silence}
 use Rattle.rig.specs.Meaning.{Meaning, hears}
-use Rattle.history.specs.Histories.{History, reached}
+use Rattle.history.specs.Histories.{reached}
 use Rattle.reading.specs.declared.ReadingFault.{ReadingFault}
 use Rattle.reading.specs.declared.ReadingFault.TheVariants.{Size, Refused}
 use Rattle.reading.specs.Report.{report}
 use Rattle.reading.specs.Reading.{sized, read_result, read_next, read_buffer}
-use Rattle.reading.specs.Laws.{Ready}
 use Rattle.reading.specs.Compare.{both_sized, both_finish, compare_fault, first_next, second_next, first_buffer, second_buffer, BothFinish, TellsApart}
 use Rattle.reading.proofs.Laws.{by_tests, ready_is}
 use Rattle.reading.proofs.Tells.{tells}

@@ -1,5 +1,5 @@
 -- A reading, finished or refused, by what its parts tell.
-use Rattle.std.proofs.Common.{◌≡◌, ℕ, ◌+◌, Bool, true, false, cond, ◌&&◌, eqb, List, ◌++◌, map, length, get_or, Ok, Err, Result, sym, refl, ap, ◌∙◌, arith, lit<}
+use Rattle.std.proofs.Common.{◌≡◌, ℕ, ◌+◌, true, false, cond, ◌&&◌, List, ◌++◌, map, length, get_or, Ok, Err, Result, sym, refl, ap, ◌∙◌, lit<}
 use Rattle.std.specs.List.{range_with_len}
 use Rattle.std.proofs.lemmas.List.FromFn.{get_or-map-range_with_len}
 use Rattle.std.proofs.lemmas.Bool.{eq-eqb, ne_eqb}
@@ -16,7 +16,7 @@ use Rattle.rig.specs.Meaning.{Meaning, get, hears, next}
 use Rattle.reading.specs.declared.ReadingFault.{ReadingFault}
 use Rattle.reading.specs.declared.ReadingFault.TheVariants.{Size, Refused}
 use Rattle.reading.specs.Report.{registers, as_told, ring_told, words, report}
-use Rattle.reading.specs.Reading.{sized, finishes, read_result, ring_read, read_next, read_buffer}
+use Rattle.reading.specs.Reading.{sized, read_result, ring_read, read_next, read_buffer}
 
 -- the resolution bits among the registers
 pub bits_read : (m : Meaning) (bytes : List ℕ) → bytes ≡ registers m.part → get_or bytes 0x3F 0 ≡ setting m.part.settings 0x3F

@@ -1,25 +1,22 @@
 -- What a reading says of the history, from what it answers and leaves.
-use Rattle.std.proofs.Common.{◌≡◌, ℕ, zero, suc, ◌-◌, ◌<◌, ◌≤◌, Bool, true, false, cond, ◌&&◌, eqb, List, [], ◌∷◌, ◌++◌, length, is_ok, IfOk, Ok, Err, Decides, Result, sym, refl, ap, ◌∙◌, arith, lit<, lit≤}
+use Rattle.std.proofs.Common.{◌≡◌, ℕ, zero, suc, ◌≤◌, Bool, true, false, cond, ◌&&◌, eqb, List, [], ◌∷◌, ◌++◌, length, is_ok, IfOk, Ok, Err, Decides, Result, sym, refl, ap, ◌∙◌, arith, lit<, lit≤}
 use mathlib.Core.Path.{subst⁻¹}
-use Rattle.std.proofs.lemmas.Bool.{both_ways, eqb-true, eq-eqb, and_parts, and_from}
+use Rattle.std.proofs.lemmas.Bool.{eqb-true, eq-eqb, and_parts, and_from}
 use Rattle.samples.specs.declared.signal.Signal.{Signal}
 use Rattle.samples.specs.declared.signal.Signal.TheVariants.{Current, Voltage}
-use Rattle.registers.specs.Pins.{address_of}
 use Rattle.registers.specs.Questions.{resolution}
 use Rattle.part.specs.Model.{Model, address}
 use Rattle.part.specs.Shown.{shown}
 use Rattle.part.specs.Events.{step, block as read_out}
 use Rattle.rig.specs.declared.Refusal.TheVariants.{Silence}
 use Rattle.rig.specs.Meaning.{Meaning, Call, get, hears, next}
-use Rattle.history.specs.Histories.{History, since, reached, and_then, heard, Answers}
-use Rattle.history.specs.Points.{Agree}
+use Rattle.history.specs.Histories.{History, since, reached, and_then}
 use Rattle.history.proofs.Points.{has_points}
 use Rattle.reading.specs.declared.ReadingFault.{ReadingFault}
 use Rattle.reading.specs.declared.ReadingFault.TheVariants.{Size, Refused}
 use Rattle.reading.specs.Report.{registers, ring_told, words, report}
-use Rattle.reading.specs.Readouts.{ring_bytes}
-use Rattle.reading.specs.Reading.{sized, finishes, read_result, ring_read, read_next, read_buffer}
-use Rattle.reading.specs.Laws.{Ready, Finishes, Shows, ShowsPoints, Tells, gets, ring_block, tried, ReadOn, Goes_on}
+use Rattle.reading.specs.Reading.{sized, finishes, ring_read, read_next, read_buffer}
+use Rattle.reading.specs.Laws.{Ready, Finishes, Shows, ShowsPoints, Tells, gets, ring_block, tried, Goes_on}
 use Rattle.reading.proofs.Calls.{get_kept, part_kept}
 use Rattle.reading.proofs.Readouts.{ring_next}
 use Rattle.reading.proofs.Finished.{still_hears, still_told, Read}

@@ -1,8 +1,8 @@
 -- The report on the part that a history reaches shows the history's points.
-use Rattle.std.proofs.Common.{◌≡◌, ℕ, ◌+◌, ◌-◌, ◌*◌, ◌/◌, ◌%◌, ◌<◌, ◌≤◌, Bool, true, false, cond, ◌&&◌, eqb, ltb, List, [], ◌∷◌, ◌++◌, map, length, get_or, drop, replicate, Some, None, sym, refl, ap, ◌∙◌, inl, inr, ⊎_elim, arith, lit<}
+use Rattle.std.proofs.Common.{◌≡◌, ℕ, ◌+◌, ◌-◌, ◌*◌, ◌/◌, ◌%◌, ◌<◌, Bool, true, false, cond, ◌&&◌, eqb, ltb, List, [], ◌∷◌, ◌++◌, map, length, get_or, replicate, Some, None, sym, refl, ap, ◌∙◌, inl, inr, ⊎_elim, arith, lit<}
 use Rattle.std.specs.List.{range_with_len}
 use Rattle.std.proofs.lemmas.List.FromFn.{fill_by_all}
-use Rattle.std.proofs.lemmas.List.{length-append, length-drop, length-map, get_or-map}
+use Rattle.std.proofs.lemmas.List.{length-append, length-drop, get_or-map}
 use Rattle.std.proofs.lemmas.Bool.{both_ways, cases_Bool, cases_eq, ne_eqb, eq-eqb, eqb-true, cond-true, cond-false, ltb-true, lt-ltb, and_parts}
 use Rattle.samples.specs.History.{sample_at}
 use Rattle.samples.specs.declared.ring.Resolution.TheVariants.{Short, Full}
@@ -21,11 +21,11 @@ use Rattle.part.specs.declared.events.Pin.TheVariants.{On, Pol}
 use Rattle.part.specs.Model.{Model, monitor}
 use Rattle.part.specs.Shown.{shown}
 use Rattle.rig.specs.Meaning.{Meaning}
-use Rattle.part.specs.Runs.{least, greatest, counted, ExtremesOf, ring_of, stored}
+use Rattle.part.specs.Runs.{counted, ExtremesOf, ring_of, stored}
 use Rattle.history.specs.Histories.{History, events}
-use Rattle.history.specs.Points.{setting_point, smallest_of, largest_of, smallest_point, largest_point, cause_point, short_point, as_fine, ring_point}
+use Rattle.history.specs.Points.{smallest_of, largest_of, smallest_point, largest_point, cause_point, short_point, as_fine, ring_point}
 use Rattle.history.proofs.Points.{HasPoints}
-use Rattle.report.specs.View.{pair_in, latest_place, smallest_place, largest_place, none_in, smallest_in, largest_in, cause_in, word_in, ring_place, sample_in}
+use Rattle.report.specs.View.{pair_in, latest_place, smallest_place, largest_place, smallest_in, largest_in, cause_in, word_in, ring_place}
 use Rattle.reading.specs.Report.{as_told, ring_told, report}
 use Rattle.reading.specs.Laws.{in_ten_bits, Shows}
 use Rattle.reading.proofs.Bytes.{pair_back, high_flag, low_flag, one_flag, first_flag, last_flag, prot_of, prot_back, on_back, level_back}

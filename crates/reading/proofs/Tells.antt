@@ -1,5 +1,5 @@
 -- Reports tell histories apart.
-use Rattle.std.proofs.Common.{◌≡◌, ℕ, ◌+◌, ◌*◌, ◌/◌, ◌<◌, Bool, true, false, cond, List, [], ◌∷◌, ◌++◌, map, length, get_or, Some, None, Option, sym, refl, ap, ◌∙◌, inl, inr, arith, lit<}
+use Rattle.std.proofs.Common.{◌≡◌, ℕ, ◌/◌, ◌<◌, Bool, true, false, List, [], ◌∷◌, ◌++◌, map, length, get_or, Some, None, Option, sym, refl, ap, ◌∙◌, inl, inr, arith}
 use mathlib.Core.Path.{subst⁻¹}
 use Rattle.std.specs.List.{range_with_len}
 use Rattle.std.proofs.lemmas.List.FromFn.{get_or-map-range_with_len, length-map-range_with_len, fill_by_all}
@@ -13,17 +13,16 @@ use Rattle.registers.specs.declared.causes.Cause.TheVariants as cause
 use Rattle.registers.specs.Questions.{setting, bit, run_weight}
 use Rattle.registers.specs.Rows.{listed}
 use Rattle.part.specs.declared.events.Pin.TheVariants.{On, Pol}
-use Rattle.part.specs.Model.{Model, monitor}
+use Rattle.part.specs.Model.{monitor}
 use Rattle.part.specs.Shown.{shown}
 use Rattle.rig.specs.Meaning.{Meaning}
 use Rattle.part.specs.Runs.{least, greatest, counted, ring_of, stored}
 use Rattle.history.specs.Histories.{History, reached, events}
 use Rattle.history.specs.Points.{setting_point, smallest_of, largest_of, smallest_point, largest_point, short_point, as_fine, ring_point, Agree}
 use Rattle.history.proofs.Points.{HasPoints, has_points}
-use Rattle.report.specs.View.{sample_in}
 use Rattle.reading.specs.Report.{registers, ring_told, words, report}
 use Rattle.reading.specs.Laws.{in_ten_bits, Shows, TellsOf}
-use Rattle.reading.proofs.Shows.{listed_below, resolution_listed, ring_fifty, ring_told_is, shows}
+use Rattle.reading.proofs.Shows.{resolution_listed, ring_fifty, ring_told_is, shows}
 
 -- ---- what bytes show of two histories is the same
 

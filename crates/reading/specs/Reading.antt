@@ -3,7 +3,6 @@ use Rattle.std.specs.Prelude.{ℕ, Bool, cond, ◌&&◌, List, length, Ok, Err, 
 use Rattle.samples.specs.declared.signal.Signal.{Signal}
 use Rattle.samples.specs.declared.signal.Signal.TheVariants.{Current, Voltage}
 use Rattle.part.specs.Events.{step, block as read_out}
-use Rattle.rig.specs.declared.Refusal.{Refusal}
 use Rattle.rig.specs.declared.Refusal.TheVariants.{Silence}
 use Rattle.rig.specs.Refusals.{number_of}
 use Rattle.rig.specs.Meaning.{Meaning, get, hears, next}

@@ -1,8 +1,7 @@
 -- Power-up and writes keep every byte within its mask, and so below 256.
-use Rattle.std.proofs.Common.{◌≡◌, ℕ, ◌/◌, ◌%◌, ◌<◌, ◌≤◌, min, Bool, true, false, cond, eqb, leb, ◌≢◌, List, [], ◌∷◌, map, length, get_or, set, sym, refl, ap, ◌∙◌, subst, ⊎_elim, arith, lit≤}
+use Rattle.std.proofs.Common.{◌≡◌, ℕ, ◌/◌, ◌%◌, ◌<◌, ◌≤◌, min, true, eqb, leb, ◌≢◌, List, [], ◌∷◌, length, get_or, set, refl, ap, ◌∙◌, subst, ⊎_elim, arith, lit≤}
 use lib.Arith.{bin_ind}
 use lib.Bits.{bit_and, and_step}
-use Rattle.std.specs.List.{range_with_len}
 use Rattle.std.proofs.lemmas.Nat.{and_le_r}
 use Rattle.std.proofs.lemmas.List.FromFn.{get_or-map-range_with_len}
 use Rattle.std.proofs.lemmas.List.{get_or-set_same, get_or-set_other}

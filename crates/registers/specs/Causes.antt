@@ -1,6 +1,5 @@
 -- What is logged, and the bytes that show it.
-use Rattle.std.specs.Prelude.{ℕ, ◌+◌, Bool, true, false, cond, not, ◌||◌, ◌==◌}
-use Rattle.registers.specs.declared.causes.Trip.{Trip}
+use Rattle.std.specs.Prelude.{ℕ, ◌+◌, Bool, false, cond, not, ◌||◌, ◌==◌}
 use Rattle.registers.specs.declared.causes.Trip.TheVariants.{Fast, Slow}
 use Rattle.registers.specs.declared.causes.Compare.{Compare}
 use Rattle.registers.specs.declared.causes.Compare.TheVariants.{Uv1, Uv2, Ov1, Ov2, Oi}

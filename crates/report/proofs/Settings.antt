@@ -1,5 +1,5 @@
 -- The registers that keep a written bit are the settings.
-use Rattle.std.proofs.Common.{◌≡◌, ℕ, Bool, true, false, cond, not, eqb, List, [], ◌∷◌, refl}
+use Rattle.std.proofs.Common.{◌≡◌, ℕ, true, false, cond, not, eqb, List, [], ◌∷◌, refl}
 use Rattle.std.proofs.lemmas.Bool.{and_parts}
 use Rattle.registers.specs.Rows.{Row, rows, in_rows, mask_of, listed}
 use Rattle.registers.proofs.Tables.{all_rows}

@@ -1,12 +1,11 @@
 -- Calls on the bus: put, get and block.
-use Rattle.std.proofs.Common.{◌≡◌, ℕ, ◌-◌, ◌<◌, Bool, true, false, cond, ◌&&◌, eqb, leb, sym, refl, ap, ◌∙◌, ⊎_elim, arith}
+use Rattle.std.proofs.Common.{◌≡◌, ℕ, ◌-◌, Bool, true, false, cond, ◌&&◌, eqb, leb, sym, refl, ap, ◌∙◌, ⊎_elim, arith}
 use Rattle.std.proofs.lemmas.Bool.{both_ways, cases_Bool, and_from}
-use Rattle.std.proofs.lemmas.Bool.Decides.{nat_tests}
 use Rattle.part.specs.Model.{Model, address}
 use Rattle.part.specs.Shown.{shown}
 use Rattle.rig.specs.declared.Refusal.{Refusal}
-use Rattle.rig.specs.declared.Refusal.TheVariants.{Sample, Length, Register, Silence}
-use Rattle.rig.specs.Meaning.{Meaning, Call, tick, pin, trip, outputs, put, get, block, Answer, done, byte, bytes, levels, refused, sized, ring_base, hears, bus_answer, block_of, answer, accepts, reaches, does, next}
+use Rattle.rig.specs.declared.Refusal.TheVariants.{Length, Register, Silence}
+use Rattle.rig.specs.Meaning.{Meaning, Call, tick, pin, trip, outputs, put, get, block, Answer, done, byte, bytes, refused, sized, ring_base, hears, bus_answer, block_of, answer, accepts, reaches, does, next}
 
 abbrev pub on_bus : Call → Bool
 on_bus (tick i v) = false

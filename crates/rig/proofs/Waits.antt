@@ -1,9 +1,7 @@
 -- A call on the bus that is tried again: what the tries come to, for the rig above.
-use Rattle.std.proofs.Common.{◌≡◌, ℕ, zero, suc, ◌+◌, ◌-◌, ◌/◌, ◌<◌, ◌≤◌, Bool, true, false, cond, ◌&&◌, eqb, ◌⊎◌, List, length, Ok, Err, Result, sym, refl, ap, ◌∙◌, inl, inr, ⊎_elim, div-one, add-one, arith}
+use Rattle.std.proofs.Common.{◌≡◌, ℕ, zero, suc, ◌+◌, ◌-◌, ◌/◌, ◌<◌, ◌≤◌, true, false, cond, ◌&&◌, eqb, List, length, Ok, Err, Result, sym, refl, ap, ◌∙◌, ⊎_elim, div-one, add-one, arith}
 use native.Mathlib.Nat.{div-eq_of_lt, div-eq-sub-div}
 use Rattle.std.proofs.lemmas.Bool.{both_ways, cases_Bool, cases_eq, eqb-true, ne_eqb, and_parts}
-use Rattle.std.proofs.lemmas.Bool.Decides.{nat_tests}
-use Rattle.part.specs.Model.{Model}
 use Rattle.rig.specs.declared.Refusal.{Refusal}
 use Rattle.rig.specs.declared.Refusal.TheVariants.{Sample, Length, Register, Silence}
 use Rattle.rig.specs.Refusals.{told, is_silence, silent}

@@ -1,6 +1,5 @@
 -- Refusals, each with its number.
 use Rattle.std.specs.Prelude.{ℕ, Bool, true, false, Ok, Err, Result}
-use Rattle.samples.specs.declared.signal.Signal.{Signal}
 use Rattle.rig.specs.declared.Refusal.{Refusal}
 use Rattle.rig.specs.declared.Refusal.TheVariants.{Sample, Length, Register, Silence}
 use Rattle.rig.specs.Meaning.{Answer, refused}

@@ -1,5 +1,5 @@
 -- Samples have ten bits by their type, so what a ring shows of them are bytes.
-use Rattle.std.proofs.Common.{◌≡◌, ℕ, zero, suc, ◌/◌, ◌%◌, ◌<◌, cond, eqb, List, [], ◌∷◌, ◌++◌, map, get_or, take, drop, ap, ◌∙◌, arith, lit<}
+use Rattle.std.proofs.Common.{◌≡◌, ℕ, zero, suc, ◌/◌, ◌%◌, ◌<◌, eqb, List, [], ◌∷◌, get_or, arith, lit<}
 use Rattle.std.proofs.lemmas.List.{map-append, take-map, drop-map}
 use Rattle.std.proofs.lemmas.Bool.{cond_both}
 use Rattle.samples.specs.declared.ring.Ring.{Ring}

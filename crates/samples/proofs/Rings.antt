@@ -1,9 +1,9 @@
 -- A store pushes the oldest out, and a run of stores leaves the last fifty.
-use Rattle.std.proofs.Common.{◌≡◌, ℕ, ◌+◌, ◌-◌, ◌%◌, ◌<◌, ◌≤◌, cond, ltb, ◌⊎◌, List, [], ◌∷◌, ◌++◌, map, length, get_or, take, drop, set, replicate, sym, refl, ap, ◌∙◌, inl, inr, ⊎_elim, append_assoc, add-one, arith, lit<}
-use Rattle.std.proofs.lemmas.List.{append-nil, length_push, length-map, length-append, length-replicate, map_push, drop-map, drop-set-lt, take_more_set, drop_more, drop_all, set_split, at_drop_more, at_drop_all}
+use Rattle.std.proofs.Common.{◌≡◌, ℕ, ◌+◌, ◌-◌, ◌<◌, ◌≤◌, ltb, List, [], ◌∷◌, ◌++◌, map, length, get_or, take, drop, set, replicate, sym, refl, ap, ◌∙◌, ⊎_elim, append_assoc, add-one, arith}
+use Rattle.std.proofs.lemmas.List.{append-nil, length_push, length-append, map_push, drop-map, drop-set-lt, take_more_set, drop_more, drop_all, set_split, at_drop_more, at_drop_all}
 use Rattle.std.proofs.lemmas.Bool.{cases_lt, lt-ltb, le-ltb, cond-true, cond-false}
 use Rattle.samples.specs.Places.{following}
-use Rattle.samples.specs.History.{turned, pushed, last_fifty, values}
+use Rattle.samples.specs.History.{turned, pushed, last_fifty}
 
 -- a write over the oldest, and the next place for the oldest, within the list and at its end
 pushed_on : {X : Type 0} (xs : List X) (o next : ℕ) (x : X) → o < length xs → next ≡ o + 1 → turned (set xs o x) next ≡ pushed (turned xs o) x

@@ -1,17 +1,14 @@
 -- What the frame of a call means: the call.
-use Rattle.std.proofs.Common.{◌≡◌, ℕ, zero, suc, ◌+◌, ◌-◌, ◌<◌, ◌≤◌, Bool, true, false, cond, not, ◌&&◌, eqb, ltb, leb, List, [], ◌∷◌, map, length, get_or, is_err, Ok, Err, Result, sym, refl, ap, ◌∙◌, subst, ⊎_elim, add-one, arith, lit<}
+use Rattle.std.proofs.Common.{◌≡◌, ℕ, zero, suc, ◌+◌, ◌-◌, ◌<◌, ◌≤◌, Bool, true, false, cond, ◌&&◌, eqb, ltb, leb, List, [], length, get_or, is_err, Ok, Err, Result, sym, refl, ap, ◌∙◌, ⊎_elim, add-one, arith, lit<}
 use mathlib.Core.Path.{subst⁻¹}
-use Rattle.std.specs.List.{range_with_len}
 use Rattle.std.proofs.lemmas.List.FromFn.{fill_by_all}
-use Rattle.std.proofs.lemmas.Bool.{both_ways, cases_eq, cases_lt, cases_Bool, eq-eqb, ne_eqb, lt-ltb, le-ltb, le-leb, lt-leb, leb-true, cond-true, cond-false, and_from, and_parts, or_from, or_cases, eqb-true, ltb-true}
-use Rattle.bus.specs.declared.levels.Levels.{Levels}
+use Rattle.std.proofs.lemmas.Bool.{both_ways, cases_eq, cases_lt, cases_Bool, eq-eqb, ne_eqb, lt-ltb, le-ltb, le-leb, leb-true, cond-true, cond-false, and_from, and_parts, or_from, or_cases, eqb-true, ltb-true}
 use Rattle.bus.specs.declared.sender.PutFault.{PutFault}
 use Rattle.bus.specs.declared.sender.PutFault.TheVariants as put
 use Rattle.bus.specs.declared.sender.ReadFault.{ReadFault}
 use Rattle.bus.specs.declared.sender.ReadFault.TheVariants as read
 use Rattle.bus.specs.Frames.{Beat, Driven, pair, put_frame, read_frame}
 use Rattle.samples.specs.History.{byte_at}
-use Rattle.samples.specs.declared.signal.Signal.{Signal}
 use Rattle.registers.specs.declared.pins.Strap.{Strap}
 use Rattle.registers.specs.declared.pins.Strap.TheVariants.{Low, High, Open}
 use Rattle.registers.specs.Pins.{address_of}
@@ -26,11 +23,10 @@ use Rattle.rig.specs.declared.Refusal.{Refusal}
 use Rattle.rig.specs.declared.Refusal.TheVariants.{Silence, Length as TooLong, Register as NoRegister}
 use Rattle.rig.specs.Meaning.{Meaning, Call, put as puts, get as gets, block as blocks, Answer, done, byte, bytes, refused, sized, ring_base, ring_at, hears, block_of, answer, accepts, reaches, does, next, filled}
 use Rattle.rig.proofs.Bus.{on_bus, good, bad, same_meaning, block_accepted, block_answered}
-use Rattle.rig.proofs.Waits.{One, one}
+use Rattle.rig.proofs.Waits.{one}
 use Rattle.wire.specs.declared.receiver.Phase.{Phase}
 use Rattle.wire.specs.declared.receiver.Phase.TheVariants.{Idle, Address, Register, Data, Acknowledge, Acknowledged, Send, Sent}
-use Rattle.wire.specs.declared.receiver.Receiver.{Receiver}
-use Rattle.wire.specs.Receive.{Line, Behind, view, pointing, wrote, read_from, passed, to_send, next_pointer, next_place}
+use Rattle.wire.specs.Receive.{Line, Behind, view, pointing, wrote, to_send, next_pointer, next_place}
 use Rattle.wire.specs.Rests.{Goes, rest, is_idle, rests, meaning_of, or_silence}
 use Rattle.wire.specs.Laws.{told_as, Does, PutFrames, GetFrames, BlockFrames, FramesAreCalls}
 use Rattle.wire.proofs.Runs.{from, seen}

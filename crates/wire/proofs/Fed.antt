@@ -3,7 +3,6 @@ use Rattle.std.proofs.Common.{◌≡◌, ℕ, zero, suc, ◌+◌, ◌-◌, ◌<�
 use Rattle.std.proofs.lemmas.Bool.{lt-ltb}
 use Rattle.bus.specs.declared.levels.Levels.{Levels}
 use Rattle.bus.specs.Frames.{Beat, tell, hear, Driven, done, told, heard, pair, bit_at, bit_frame, heard_frame, bits_frame, byte_frame}
-use Rattle.wire.specs.declared.receiver.Taken.{Taken}
 use Rattle.wire.specs.declared.receiver.Taken.TheVariants.{More, Whole}
 use Rattle.wire.specs.Receive.{Line, Behind, received, Kind, address_byte, register_byte, data_byte, taking_phase, whole, bit_taken}
 use Rattle.wire.specs.Rests.{Goes}

@@ -1,5 +1,5 @@
 -- The bits of a byte, joined again.
-use Rattle.std.proofs.Common.{◌≡◌, ℕ, zero, suc, ◌+◌, ◌-◌, ◌*◌, ◌/◌, ◌%◌, ◌<◌, Bool, true, false, eqb, refl, ap, ◌∙◌, arith}
+use Rattle.std.proofs.Common.{◌≡◌, ℕ, zero, suc, ◌+◌, ◌-◌, ◌*◌, ◌/◌, ◌%◌, ◌<◌, Bool, eqb, refl, ap, ◌∙◌, arith}
 use Rattle.bus.specs.Frames.{bit_at}
 use Rattle.wire.specs.Receive.{bit}
 

@@ -1,17 +1,16 @@
 -- What the frame of a call makes of a receiver at rest.
-use Rattle.std.proofs.Common.{◌≡◌, ℕ, zero, suc, ◌+◌, ◌-◌, ◌*◌, ◌/◌, ◌%◌, ◌^◌, ◌<◌, ◌≤◌, Bool, true, false, cond, not, eqb, ltb, leb, List, [], ◌∷◌, ◌++◌, length, get_or, Ok, Err, Result, sym, refl, ap, ◌∙◌, subst, pow-suc, add-one, arith, below_more}
+use Rattle.std.proofs.Common.{◌≡◌, ℕ, zero, suc, ◌+◌, ◌-◌, ◌*◌, ◌/◌, ◌%◌, ◌^◌, ◌<◌, ◌≤◌, Bool, true, false, cond, eqb, ltb, leb, List, [], ◌++◌, length, get_or, Ok, Err, Result, sym, refl, ap, ◌∙◌, subst, pow-suc, add-one, arith, below_more}
 use borrow.Author.Tests.{clash}
-use Rattle.std.proofs.lemmas.Bool.{lt-ltb, le-ltb, eq-eqb, ne_eqb, le-leb, eqb-true, eqb-false, ltb-true, ltb-false, not-true, not-false, cond-true, cond-false}
-use Rattle.bus.specs.declared.levels.Levels.{Levels}
+use Rattle.std.proofs.lemmas.Bool.{lt-ltb, eq-eqb, ne_eqb, le-leb, eqb-true, eqb-false, ltb-true, ltb-false, not-true, not-false, cond-true, cond-false}
 use Rattle.bus.specs.declared.sender.PutFault.{PutFault}
 use Rattle.bus.specs.declared.sender.PutFault.TheVariants as put
 use Rattle.bus.specs.declared.sender.ReadFault.{ReadFault}
 use Rattle.bus.specs.declared.sender.ReadFault.TheVariants as read
-use Rattle.bus.specs.Frames.{Beat, Driven, done, told, heard, pair, bit_at, bit_frame, heard_frame, byte_frame, start_frame, repeat_frame, stop_frame, taken_bits, taken_bytes, put_frame, read_frame, write_address, read_address}
-use Rattle.part.specs.Model.{Model, address}
+use Rattle.bus.specs.Frames.{Beat, Driven, told, pair, bit_at, bit_frame, heard_frame, byte_frame, start_frame, repeat_frame, stop_frame, taken_bits, taken_bytes, put_frame, read_frame, write_address, read_address}
+use Rattle.part.specs.Model.{address}
 use Rattle.wire.specs.declared.receiver.Next.TheVariants as next
 use Rattle.wire.specs.declared.receiver.Phase.TheVariants.{Idle, Acknowledge, Send, Sent}
-use Rattle.wire.specs.Receive.{Line, Behind, received, Kind, address_byte, register_byte, data_byte, in_phase, driving, with_behind, whole, pointing, wrote, read_from, passed, to_send, sent, opened, silenced}
+use Rattle.wire.specs.Receive.{Line, Behind, Kind, address_byte, register_byte, data_byte, in_phase, with_behind, pointing, wrote, read_from, passed, to_send}
 use Rattle.wire.specs.Rests.{Goes, rest}
 use Rattle.wire.proofs.Runs.{from, split}
 use Rattle.wire.proofs.Joined.{front}

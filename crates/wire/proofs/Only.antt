@@ -1,5 +1,5 @@
 -- Whatever levels come, only whole calls reach the part.
-use Rattle.std.proofs.Common.{◌≡◌, ℕ, ◌+◌, ◌*◌, ◌/◌, ◌%◌, ◌<◌, ◌≤◌, Bool, true, false, cond, ◌&&◌, eqb, ltb, leb, List, [], ◌∷◌, ◌++◌, length, get_or, drop, sym, refl, ap, ◌∙◌}
+use Rattle.std.proofs.Common.{◌≡◌, ℕ, ◌+◌, ◌/◌, ◌%◌, ◌<◌, ◌≤◌, Bool, true, false, cond, eqb, ltb, leb, List, [], ◌∷◌, ◌++◌, length, get_or, drop, sym, refl, ap, ◌∙◌}
 use mathlib.Core.Path.{subst⁻¹}
 use Rattle.std.proofs.lemmas.List.{at_drop_more, at_drop_all}
 use Rattle.std.proofs.lemmas.Bool.{and_parts, and_from}
@@ -17,7 +17,7 @@ use Rattle.wire.specs.declared.receiver.Taken.TheVariants.{More, Whole}
 use Rattle.wire.specs.declared.receiver.Next.TheVariants as next
 use Rattle.wire.specs.declared.receiver.Phase.{Phase}
 use Rattle.wire.specs.declared.receiver.Phase.TheVariants.{Idle, Address, Register, Data, Acknowledge, Acknowledged, Send, Sent}
-use Rattle.wire.specs.Receive.{Line, Behind, at_levels, received, reacted, risen, fallen, begun, sent, shifted, bit_taken, Kind, address_byte, register_byte, data_byte, addressed, pointed, written, opened, silenced, in_phase, with_behind, wrote, passed, pointing, to_send}
+use Rattle.wire.specs.Receive.{Line, Behind, at_levels, received, reacted, risen, fallen, sent, shifted, bit_taken, Kind, address_byte, register_byte, data_byte, addressed, pointed, written, opened, in_phase, with_behind, wrote, passed, pointing, to_send}
 use Rattle.wire.specs.Laws.{received_all, from_bus, all_from_bus, OnlyCalls}
 
 same : (p : Model) → OnlyCalls p p

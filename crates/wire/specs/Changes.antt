@@ -1,5 +1,5 @@
 -- What happens on SCL and SDA between one pair of levels and the next.
-use Rattle.std.specs.Prelude.{Bool, true, false, ◌&&◌}
+use Rattle.std.specs.Prelude.{Bool, true, false}
 use Rattle.bus.specs.declared.levels.Levels.{Levels}
 use Rattle.wire.specs.declared.change.Change.{Change}
 use Rattle.wire.specs.declared.change.Change.TheVariants.{Start, Stop, Rise, Fall, Quiet}

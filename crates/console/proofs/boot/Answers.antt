@@ -1,4 +1,4 @@
-use Rattle.std.proofs.Common.{◌≡◌, length, ap, ◌∙◌}
+use Rattle.std.proofs.Common.{length, ap, ◌∙◌}
 use Rattle.console.specs.Answering.{answer_buffer}
 use Rattle.console.specs.Booting.{boot_outcome, boot_result}
 use Rattle.console.proofs.Lines.{first_one}

@@ -1,4 +1,4 @@
-use Rattle.std.proofs.Common.{◌≡◌, Ok, sym, ap}
+use Rattle.std.proofs.Common.{Ok, sym, ap}
 use Rattle.answers.specs.Text.{text_of}
 use Rattle.console.specs.Answering.{said}
 use Rattle.console.specs.Told.{told}

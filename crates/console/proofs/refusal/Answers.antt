@@ -1,4 +1,4 @@
-use Rattle.std.proofs.Common.{◌≡◌, ap}
+use Rattle.std.proofs.Common.{ap}
 use Rattle.answers.specs.Text.{refusal_text, text_of}
 use Rattle.console.specs.Answering.{said}
 use Rattle.console.proofs.refusal.Goals as goal

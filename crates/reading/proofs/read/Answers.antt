@@ -1,6 +1,5 @@
-use Rattle.std.proofs.Common.{◌≡◌, ℕ, true, false, List, length, Ok, Err, sym, ap, ◌∙◌, rules}
+use Rattle.std.proofs.Common.{ℕ, List, Ok, Err, ap, ◌∙◌}
 use Rattle.std.proofs.lemmas.Result.{err_from_is_err_and}
-use Rattle.rig.specs.declared.Refusal.TheVariants.{Silence}
 use Rattle.rig.specs.Meaning.{Meaning}
 use Rattle.reading.specs.declared.ReadingFault.TheVariants.{Size, Refused}
 use Rattle.reading.proofs.Finished.{Read, finished, unanswered, unfit}

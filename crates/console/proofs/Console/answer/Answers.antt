@@ -1,4 +1,4 @@
-use Rattle.std.proofs.Common.{◌≡◌, ℕ, List, length, ap, ◌∙◌}
+use Rattle.std.proofs.Common.{ℕ, List, length, ap, ◌∙◌}
 use Rattle.rig.specs.Meaning.{Meaning}
 use Rattle.console.specs.Answering.{line_outcome, next_line, answer_result, answer_left, answer_buffer}
 use Rattle.console.proofs.Lines.{reads_one}

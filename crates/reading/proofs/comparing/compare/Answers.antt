@@ -1,8 +1,7 @@
-use Rattle.std.proofs.Common.{◌≡◌, ℕ, true, false, List, length, is_ok, Ok, Err, Decides, sym, refl, ap, ◌∙◌, rules}
+use Rattle.std.proofs.Common.{◌≡◌, ℕ, true, false, List, length, Decides, sym, refl, ◌∙◌}
 use Rattle.std.proofs.lemmas.Result.{err_from_is_err_and}
 use Rattle.rig.specs.Meaning.{Meaning, hears}
 use Rattle.reading.specs.Report.{report}
-use Rattle.reading.specs.Compare.{both_sized}
 use Rattle.reading.proofs.Compares.{read_done, read_refused, left_fits, right_fits, fault_is, left_next_is, right_next_is, left_report_is, left_read_is, both_is, right_buffer_is, right_read_is, both_law, tells_law}
 use Rattle.reading.proofs.comparing.compare.Goals as goal
 

@@ -1,4 +1,4 @@
-use Rattle.std.proofs.Common.{◌≡◌, ◌+◌, ◌*◌, ◌/◌, ◌<◌, length, get_or, sym, ap, ◌∙◌, arith, rules}
+use Rattle.std.proofs.Common.{◌≡◌, ◌+◌, ◌*◌, ◌/◌, length, get_or, sym, ap, ◌∙◌, arith, rules}
 use Rattle.reading.specs.Report.{words}
 use Rattle.reading.proofs.Words.{high_word, low_word}
 use Rattle.reading.proofs.parts.sample_byte.Goals as goal

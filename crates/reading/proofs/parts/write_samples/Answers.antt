@@ -1,4 +1,4 @@
-use Rattle.std.proofs.Common.{◌≡◌, ◌<◌, ◌≢◌, length, sym, ◌∙◌, arith, get_or-set_other, get_or-set_same, rules, below_more}
+use Rattle.std.proofs.Common.{◌≡◌, ◌<◌, ◌≢◌, length, arith, get_or-set_other, get_or-set_same, rules, below_more}
 use Rattle.std.proofs.lemmas.List.{ext_get_or}
 use Rattle.reading.specs.Report.{words}
 use Rattle.reading.proofs.Words.{length_words}

@@ -1,9 +1,8 @@
-use Rattle.std.proofs.Common.{◌≡◌, ℕ, ◌-◌, ◌≤◌, List, ◌++◌, map, length, sym, ap, ◌∙◌, arith, rules}
+use Rattle.std.proofs.Common.{◌≡◌, ℕ, ◌-◌, List, ◌++◌, map, length, ◌∙◌}
 use borrow.Rule.Slice.PartMut.{mid_of, post_of}
 use Rattle.std.specs.List.{range_with_len}
-use Rattle.registers.specs.Questions.{setting, resolution}
 use Rattle.rig.specs.Meaning.{Meaning, block, filled, next}
-use Rattle.reading.specs.Readouts.{ring_bytes, base_of, bit_resolution, told_at}
+use Rattle.reading.specs.Readouts.{ring_bytes, told_at}
 use Rattle.reading.proofs.Readouts.{blank, length_first, same_bits, ring_is_told, ring_is_read}
 use Rattle.reading.proofs.rings.read_ring.Goals as goal
 

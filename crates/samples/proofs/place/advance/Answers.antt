@@ -1,4 +1,4 @@
-use Rattle.std.proofs.Common.{◌≡◌, ◌+◌, ◌%◌, ◌<◌, ◌≤◌, false, eqb, sym, ◌∙◌, arith, rules}
+use Rattle.std.proofs.Common.{◌≡◌, ◌+◌, ◌%◌, ◌<◌, ◌≤◌, false, eqb, sym, ◌∙◌, rules}
 use Rattle.std.proofs.lemmas.Bool.{cond-false}
 use Rattle.samples.proofs.Rounds.{on_within, on_round}
 use Rattle.samples.proofs.place.advance.Goals as goal

@@ -1,4 +1,4 @@
-use Rattle.std.proofs.Common.{◌≡◌, length, sym, ap, ◌∙◌, arith, rules}
+use Rattle.std.proofs.Common.{◌≡◌, length, arith, rules}
 use Rattle.reading.specs.Report.{words}
 use Rattle.reading.proofs.Words.{length_words, three_parts}
 use Rattle.reading.proofs.parts.Parts.write.Goals as goal

@@ -1,6 +1,5 @@
 use Rattle.std.proofs.Common.{◌≡◌, false, length, refl, ap, ◌∙◌, arith, rules}
-use Rattle.rig.specs.declared.Refusal.TheVariants.{Silence}
-use Rattle.rig.specs.Meaning.{Call, block, bytes, refused, next, answer, filled}
+use Rattle.rig.specs.Meaning.{Call, block, bytes, next, answer, filled}
 use Rattle.rig.specs.Patience.{eased}
 use Rattle.rig.specs.Refusals.{silent}
 use Rattle.rig.proofs.Waits.{filled_alike, unmet, waited_done, waited_all}

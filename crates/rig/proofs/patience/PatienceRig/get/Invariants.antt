@@ -1,4 +1,4 @@
-use Rattle.std.proofs.Common.{◌≡◌, length}
+use Rattle.std.proofs.Common.{◌≡◌}
 use Rattle.rig.specs.Meaning.{get}
 use Rattle.rig.proofs.Waits.{Waited}
 use Rattle.rig.proofs.patience.PatienceRig.get.Given as goal

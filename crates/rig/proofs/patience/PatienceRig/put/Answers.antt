@@ -1,6 +1,5 @@
 use Rattle.std.proofs.Common.{◌≡◌, false, refl, ap, ◌∙◌, arith, rules}
-use Rattle.rig.specs.declared.Refusal.TheVariants.{Silence}
-use Rattle.rig.specs.Meaning.{Call, put, done, refused, next, answer}
+use Rattle.rig.specs.Meaning.{Call, put, done, next}
 use Rattle.rig.specs.Patience.{eased}
 use Rattle.rig.specs.Refusals.{silent}
 use Rattle.rig.proofs.Waits.{unmet, waited_done, waited_all}
