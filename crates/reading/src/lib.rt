@@ -7,8 +7,8 @@ ghost use Rattle.reading.specs.Reading.{fault_number, read_result, read_next, re
 ghost use Rattle.reading.specs.declared.ReadingFault.TheVariants.{Refused};
 
 mod comparing;
+mod gets;
 mod parts;
-mod registers;
 mod rings;
 
 pub use comparing::compare;

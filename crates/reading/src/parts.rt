@@ -6,7 +6,7 @@ ghost use Rattle.rig.specs.declared.Refusal.TheVariants.{Silence};
 ghost use Rattle.reading.specs.Report.{registers as all_registers, ring_told, words};
 ghost use Rattle.reading.specs.Reading.{ring_read};
 
-use crate::registers::read_all;
+use crate::gets::read_all;
 use crate::rings::read_ring;
 use registers::register::COUNT;
 use report::{CURRENTS, REPORT_BYTES, VOLTAGES};
