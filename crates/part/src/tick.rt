@@ -1,7 +1,7 @@
 //! One tick of 100 microseconds: a current and a voltage sample.
 ghost use Rattle.std.specs.Prelude.{◌≡◌, ◌&&◌};
 ghost use Rattle.part.specs.Model.{model};
-ghost use Rattle.part.specs.Tick.{counts as CountsOf, stores as stores_of, beyond as beyond_of, positive as positive_of, acts as acts_of, critical as critical_of, guards as guards_of, latches as latches_of, next_count, next_good, measured};
+ghost use Rattle.part.specs.Tick.{counts as counts_of, stores as stores_of, beyond as beyond_of, positive as positive_of, acts as acts_of, critical as critical_of, guards as guards_of, latches as latches_of, next_count, next_good, measured};
 ghost use Rattle.part.specs.Events.{step, tick as ticks};
 
 use crate::Part;
@@ -48,7 +48,7 @@ impl Part {
     }
 
     fn counts(&self, signal: Signal) -> bool
-        ensures { result ≡ CountsOf (model self.now) signal }
+        ensures { result ≡ counts_of (model self.now) signal }
     {
         !self.settings.holds(signal) && !self.settings.resets(signal)
     }

@@ -22,7 +22,7 @@ const NAMES: [&str; 18] = [
     "rings-full",
     "rings-short",
     "script-forms",
-    "stop_delay",
+    "stop-delay",
     "stop-delay-above-fifty",
 ];
 

@@ -16,7 +16,7 @@ use Rattle.reading.specs.declared.ReadingFault.{ReadingFault}
 use Rattle.reading.specs.declared.ReadingFault.TheVariants.{Size, Refused}
 use Rattle.reading.specs.Report.{registers, ring_told, words, report}
 use Rattle.reading.specs.Reading.{sized, finishes, ring_read, read_next, read_buffer}
-use Rattle.reading.specs.Laws.{Ready, Finishes, Shows, ShowsPoints, Tells, gets, ring_block, tried, Goes_on}
+use Rattle.reading.specs.Laws.{Ready, Finishes, Shows, ShowsPoints, Tells, gets, ring_block, tried, GoesOn}
 use Rattle.reading.proofs.Calls.{get_kept, part_kept}
 use Rattle.reading.proofs.Readouts.{ring_next}
 use Rattle.reading.proofs.Finished.{still_hears, still_told, Read}
@@ -102,7 +102,7 @@ report_kept m a size = by (sized size) (hears m a)
     by true false = ap report (part_kept m a 0 (lit< tt))
     by false u = refl
 
-pub goes_on : (m : Meaning) (a size : ℕ) (n : Meaning) → n ≡ read_next m a size → Goes_on m a size n
+pub goes_on : (m : Meaning) (a size : ℕ) (n : Meaning) → n ≡ read_next m a size → GoesOn m a size n
 goes_on m a size n is h e =
     let then : n ≡ reached (and_then h (tried m a size)) = is ∙ tried_is m a size ∙ ap (λ x. since x (tried m a size)) e ∙ sym (reached_then h (tried m a size)) in
     record {
@@ -141,5 +141,5 @@ module _ (m : Meaning) (a : ℕ) (before : List ℕ) (r : Result (Unit {0}) Read
   pub law_tells : IfOk r (λ _. Tells m after)
   law_tells = if_made (Tells m after) (λ ok h k e. tells h k m after e (is_report ok))
 
-  pub law_goes_on : Goes_on m a (length before) n
+  pub law_goes_on : GoesOn m a (length before) n
   law_goes_on = goes_on m a (length before) n read.left

@@ -76,5 +76,5 @@ pub record ReadOn (h : History) (calls : List Call) (n : Meaning) : Type 0 where
   pub now : n ≡ reached (and_then h calls)
   pub kept : Agree h (and_then h calls)
 
-abbrev pub Goes_on : Meaning → ℕ → ℕ → Meaning → Type 0
-Goes_on m a size n = (h : History) → m ≡ reached h → ReadOn h (tried m a size) n
+abbrev pub GoesOn : Meaning → ℕ → ℕ → Meaning → Type 0
+GoesOn m a size n = (h : History) → m ≡ reached h → ReadOn h (tried m a size) n

@@ -2,7 +2,7 @@
 #![tactic(auto)]
 
 ghost use Rattle.std.specs.Prelude.{◌≡◌, length, is_ok, OnOk};
-ghost use Rattle.reading.specs.Laws.{Finishes, ShowsPoints, Tells, Goes_on};
+ghost use Rattle.reading.specs.Laws.{Finishes, ShowsPoints, Tells, GoesOn};
 ghost use Rattle.reading.specs.Reading.{fault_number, read_result, read_next, read_buffer};
 ghost use Rattle.reading.specs.declared.ReadingFault.TheVariants.{Refused};
 
@@ -53,7 +53,7 @@ pub fn read<R: Rig>(rig: &mut R, address: u8, report: &mut [u8]) -> Result<(), R
     ensures finishes { Finishes (R.Rig.meaning rig.old) address (length report.old) (is_ok result) }
     ensures shows { OnOk result (ShowsPoints (R.Rig.meaning rig.old) report.new) }
     ensures tells { OnOk result (Tells (R.Rig.meaning rig.old) report.new) }
-    ensures goes_on { Goes_on (R.Rig.meaning rig.old) address (length report.old) (R.Rig.meaning rig.new) }
+    ensures goes_on { GoesOn (R.Rig.meaning rig.old) address (length report.old) (R.Rig.meaning rig.new) }
 {
     if report.len() != REPORT_BYTES {
         return Err(ReadingFault::Size);
