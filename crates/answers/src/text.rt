@@ -1,43 +1,40 @@
-//! Pieces of text: where one ends the next begins, and what lies around it is kept.
-ghost use Rattle.std.specs.Prelude.{◌≡◌, ◌+◌, ◌<◌, ◌≤◌, [], ◌∷◌, length, decimal};
-ghost use Rattle.answers.specs.Text.{hex_digit, hex_text, placed};
+//! Bytes in hexadecimal, at the end of a text.
+ghost use Rattle.std.specs.Prelude.{◌≡◌, ◌+◌, ◌<◌, ◌≤◌, [], ◌∷◌, ◌++◌};
+ghost use Rattle.arrayvec.specs.ArrayString.{array_string_len};
+ghost use Rattle.answers.specs.Text.{hex_digit, hex_text, report_text};
+
+use arrayvec::ArrayString;
+use report::REPORT_BYTES;
+
+/// How long the longest answer is, a report: two digits for each byte, and a line feed.
+pub const LONGEST: usize = 541;
 
 /// A hexadecimal digit, the high ones in capitals.
-fn hex_digit(n: u8) -> u8
+fn hex_digit(n: u8) -> char
     requires { n < 16 }
     ensures { result ≡ hex_digit n }
 {
-    if n < 10 { b'0' + n } else { b'A' + (n - 10) }
+    char::from_digit(u32::from(n), 16)
+        .unwrap()
+        .to_ascii_uppercase()
 }
 
-/// The two digits of a byte.
-pub fn hex(byte: u8) -> [u8; 2]
-    ensures { result ≡ hex_text (byte ∷ []) }
+/// Puts the two digits of a byte at the end.
+pub(crate) fn push_hex(text: &mut ArrayString<LONGEST>, byte: u8)
+    requires { array_string_len text.old + 2 ≤ LONGEST }
+    ensures { text.new.bytes ≡ text.old.bytes ++ hex_text (byte ∷ []) }
 {
-    [hex_digit(byte / 16), hex_digit(byte % 16)]
+    text.push(hex_digit(byte / 16));
+    text.push(hex_digit(byte % 16));
 }
 
-/// Puts the piece at a place, and says where it ends.
-pub fn append(out: &mut [u8], at: usize, piece: &[u8]) -> usize
-    requires { at + length piece.now ≤ length out.old }
-    ensures end { result ≡ at + length piece.now }
-    ensures after { out.new ≡ placed at piece.now out.old }
+/// Puts all bytes of a report, with nothing between them, and the line feed into an empty text.
+pub(crate) fn push_report(text: &mut ArrayString<LONGEST>, report: &[u8; REPORT_BYTES])
+    requires { text.old.bytes ≡ [] }
+    ensures { text.new.bytes ≡ report_text report.now }
 {
-    let end = at + piece.len();
-    out[at..end].copy_from_slice(piece);
-    end
-}
-
-/// Puts the number in decimal at a place, and says where it ends.
-pub fn append_number(out: &mut [u8], at: usize, n: u32) -> usize
-    requires { at + length (decimal n) ≤ length out.old }
-    ensures end { result ≡ at + length (decimal n) }
-    ensures after { out.new ≡ placed at (decimal n) out.old }
-{
-    if n < 10 {
-        append(out, at, &[b'0' + n as u8])
-    } else {
-        let next = append_number(out, at, n / 10);
-        append(out, next, &[b'0' + (n % 10) as u8])
+    for byte in report {
+        push_hex(text, *byte);
     }
+    text.push_str("\n");
 }

@@ -1,22 +1,14 @@
 use part::Part;
 use part::events::Pin;
 use registers::causes::Trip;
-use registers::pins::{Level, Pins, Strap};
+use registers::pins::{Level, Pins};
 use registers::register;
 use samples::sample::Sample;
 use samples::signal::Signal;
 
 /// The run bits, the enables and the readout are as at power-up unless a test writes them.
 fn powered() -> Part {
-    Part::power_up(Pins {
-        on: Level::High,
-        hwen: Level::High,
-        pol: Level::Low,
-        prot: Strap::Low,
-        irng: Strap::Open,
-        a1: Strap::Low,
-        a0: Strap::Low,
-    })
+    Part::power_up(Pins::payload_bay())
 }
 
 fn sample(value: u16) -> Sample {
@@ -25,11 +17,8 @@ fn sample(value: u16) -> Sample {
 
 /// Ticks with the voltages `step`, `2 * step`, .. and no current.
 fn ramp(part: &mut Part, ticks: u16, step: u16) {
-    for k in 0..ticks {
-        part.tick(
-            Sample::zero(),
-            sample(k.saturating_add(1).saturating_mul(step)),
-        );
+    for k in 1..=ticks {
+        part.tick(Sample::zero(), sample(k.saturating_mul(step)));
     }
 }
 
@@ -40,17 +29,14 @@ fn ticks(part: &mut Part, count: u16) {
 }
 
 /// The voltage samples above 0 that the ring holds, at full resolution.
-fn stored(part: &mut Part) -> u8 {
+fn stored(part: &mut Part) -> usize {
     part.write(register::CBUFRD_HIBYONLY, 0);
     let mut block = [0; 100];
     part.block(Signal::Voltage, &mut block);
-    let mut count = 0u8;
-    for k in 0..50 {
-        if block[2 * k] != 0 || block[2 * k + 1] != 0 {
-            count = count.saturating_add(1);
-        }
-    }
-    count
+    block
+        .chunks(2)
+        .filter(|sample| sample.iter().any(|byte| *byte != 0))
+        .count()
 }
 
 #[test]
@@ -85,7 +71,7 @@ fn short_readout_repeats(rt: HostRuntime) {
 }
 
 /// A trip with this stop delay, and then ticks: how many of their samples the ring stores.
-fn stored_after_trip(delay: u8, count: u16) -> u8 {
+fn stored_after_trip(delay: u8, count: u16) -> usize {
     let mut part = powered();
     part.write(register::CBUF_DLY_STOP, delay);
     part.trip(Trip::Fast);

@@ -7,7 +7,7 @@ use crate::levels::Levels;
 use std::alloc::Global;
 
 /// A pair of levels that was driven, with the SDA heard.
-#[derive(Clone, Copy, PartialEq, Eq)]
+#[derive(Clone, Copy, PartialEq, Eq, Debug)]
 pub struct Recorded {
     pub levels: Levels,
     pub sda: bool,
@@ -19,6 +19,7 @@ pub struct Recorded {
 pub struct Recorder<B> {
     bus: B,
     entries: Vec<Recorded>,
+    // A flag beside the entries, and no enum round them: the entries stay when memory runs out.
     lost: bool,
 }
 

@@ -1,6 +1,6 @@
 //! The master's side of I2C: frames from START to STOP, bit by bit, on any bus.
-ghost use Rattle.std.specs.Prelude.{◌≡◌, ℕ, ◌<◌, ◌≤◌, true, length, is_err, Ok, Err, slice_index};
-ghost use Rattle.bus.specs.Frames.{Driven, pair, start_frame, repeat_frame, stop_frame, heard_frame, byte_frame, taken_bits, taken_bytes, put_frame, read_frame};
+ghost use Rattle.std.specs.Prelude.{◌≡◌, ℕ, ◌<◌, ◌≤◌, true, length, is_ok, is_err, IfErr, MatchOption, Ok, Err, slice_index};
+ghost use Rattle.bus.specs.Frames.{Driven, pair, start_frame, repeat_frame, stop_frame, heard_frame, byte_frame, taken_bits, taken_bytes, put_frame, read_frame, write_address, read_address};
 ghost use Rattle.bus.specs.Between.{put_bytes, read_bytes};
 
 use crate::Bus;
@@ -9,8 +9,9 @@ use crate::levels::Levels;
 /// The highest address of seven bits.
 const HIGHEST_ADDRESS: u8 = 0x7F;
 
+// Two enums of faults, since one would have a case that a `put` never has, and one that a `read` never has.
 /// Which byte of a `put` was not acknowledged.
-#[derive(Clone, Copy, PartialEq, Eq)]
+#[derive(Clone, Copy, PartialEq, Eq, Debug)]
 pub enum PutFault {
     /// The address with the write bit; also an address above 0x7F, which is never sent.
     Address,
@@ -19,13 +20,43 @@ pub enum PutFault {
 }
 
 /// Which byte of a `read` was not acknowledged.
-#[derive(Clone, Copy, PartialEq, Eq)]
+#[derive(Clone, Copy, PartialEq, Eq, Debug)]
 pub enum ReadFault {
     /// The address with the write bit; also an address above 0x7F, which is never sent.
     Address,
     Register,
     /// The address with the read bit, after the repeated START.
     Repeat,
+}
+
+/// An address of seven bits, which is sent ahead of a bit that asks to write or to read.
+#[derive(Clone, Copy)]
+struct Address {
+    bits: u8,
+    ghost seven: { bits < 128 },
+}
+
+impl Address {
+    fn new(bits: u8) -> Option<Address>
+        ensures { MatchOption result (128 ≤ bits) (λ a. (bits < 128) × (a.bits ≡ bits)) }
+    {
+        if bits > HIGHEST_ADDRESS {
+            return None;
+        }
+        Some(Address { bits })
+    }
+
+    fn to_write(self) -> u8
+        ensures { result ≡ write_address self.bits }
+    {
+        self.bits * 2
+    }
+
+    fn to_read(self) -> u8
+        ensures { result ≡ read_address self.bits }
+    {
+        self.bits * 2 + 1
+    }
 }
 
 fn drive<B: Bus>(bus: &mut B, scl: bool, sda: bool) -> bool
@@ -69,14 +100,20 @@ fn send_bit<B: Bus>(bus: &mut B, bit: bool) -> bool
     heard
 }
 
-/// Sends a byte, the most significant bit first; whether it was acknowledged, by SDA low in the ninth bit.
-fn send_byte<B: Bus>(bus: &mut B, byte: u8) -> bool
-    ensures { Driven B.drives bus.old (byte_frame byte result) bus.new }
+/// Sends a byte, the most significant bit first. It is acknowledged by SDA low in the ninth bit, or else the fault
+/// is `missing`.
+fn send_byte<B: Bus, E: Copy>(bus: &mut B, byte: u8, missing: E) -> Result<(), E>
+    ensures run { Driven B.drives bus.old (byte_frame byte (is_ok result)) bus.new }
+    ensures fault { IfErr result (λ e. e ≡ missing) }
 {
-    for i in 0..8u8 {
-        send_bit(bus, (byte >> (7 - i)) % 2 == 1);
+    for bit in (0..8u8).rev() {
+        send_bit(bus, (byte >> bit) % 2 == 1);
     }
-    !send_bit(bus, true)
+    if send_bit(bus, true) {
+        Err(missing)
+    } else {
+        Ok(())
+    }
 }
 
 /// Takes a byte, the most significant bit first, with SDA let go.
@@ -86,7 +123,7 @@ fn read_byte<B: Bus>(bus: &mut B) -> u8
     let mut byte = 0u8;
     for _ in 0..8u8 {
         let bit = send_bit(bus, true);
-        byte = byte % 128 * 2 + u8::from(bit);
+        byte = (byte << 1) | u8::from(bit);
     }
     byte
 }
@@ -95,51 +132,43 @@ fn read_byte<B: Bus>(bus: &mut B) -> u8
 fn read_all<B: Bus>(bus: &mut B, into: &mut [u8])
     ensures { Driven B.drives bus.old (taken_bytes into.new (length into.new)) bus.new }
 {
-    let count = into.len();
-    for i in 0..count {
-        into[i] = read_byte(bus);
-        send_bit(bus, i + 1 == count);
+    let Some((last, others)) = into.split_last_mut() else {
+        return;
+    };
+    for place in others.iter_mut() {
+        *place = read_byte(bus);
+        send_bit(bus, false);
     }
+    *last = read_byte(bus);
+    send_bit(bus, true);
 }
 
+// The parameters stay apart: a struct of them would be made for one call and taken apart in it.
 /// The bytes of a `put`, up to one that is not acknowledged.
-fn send_put<B: Bus>(bus: &mut B, address: u8, register: u8, byte: u8) -> Result<(), PutFault>
-    requires { address < 128 }
-    ensures { Driven B.drives bus.old (put_bytes address register byte result) bus.new }
+#[tactic(auto, using(crate::proofs::Runs::then))]
+fn send_put<B: Bus>(bus: &mut B, address: Address, register: u8, byte: u8) -> Result<(), PutFault>
+    ensures { Driven B.drives bus.old (put_bytes address.bits register byte result) bus.new }
 {
-    if !send_byte(bus, address * 2) {
-        return Err(PutFault::Address);
-    }
-    if !send_byte(bus, register) {
-        return Err(PutFault::Register);
-    }
-    if !send_byte(bus, byte) {
-        return Err(PutFault::Data);
-    }
-    Ok(())
+    send_byte(bus, address.to_write(), PutFault::Address)?;
+    send_byte(bus, register, PutFault::Register)?;
+    send_byte(bus, byte, PutFault::Data)
 }
 
 /// The bytes of a `read`, up to one that is not acknowledged.
+#[tactic(auto, using(crate::proofs::Runs::then))]
 fn send_read<B: Bus>(
     bus: &mut B,
-    address: u8,
+    address: Address,
     register: u8,
     into: &mut [u8],
 ) -> Result<(), ReadFault>
-    requires { address < 128 }
-    ensures run { Driven B.drives bus.old (read_bytes address register into.new result) bus.new }
+    ensures run { Driven B.drives bus.old (read_bytes address.bits register into.new result) bus.new }
     ensures kept { is_err result ≡ true → into.new ≡ into.old }
 {
-    if !send_byte(bus, address * 2) {
-        return Err(ReadFault::Address);
-    }
-    if !send_byte(bus, register) {
-        return Err(ReadFault::Register);
-    }
+    send_byte(bus, address.to_write(), ReadFault::Address)?;
+    send_byte(bus, register, ReadFault::Register)?;
     start_again(bus);
-    if !send_byte(bus, address * 2 + 1) {
-        return Err(ReadFault::Repeat);
-    }
+    send_byte(bus, address.to_read(), ReadFault::Repeat)?;
     read_all(bus, into);
     Ok(())
 }
@@ -149,11 +178,9 @@ pub fn put<B: Bus>(bus: &mut B, address: u8, register: u8, byte: u8) -> Result<(
     ensures run { Driven B.drives bus.old (put_frame address register byte result) bus.new }
     ensures unsent { 128 ≤ address → result ≡ Err PutFault.Address }
 {
-    if address > HIGHEST_ADDRESS {
-        return Err(PutFault::Address);
-    }
+    let target = Address::new(address).ok_or(PutFault::Address)?;
     start(bus);
-    let sent = send_put(bus, address, register, byte);
+    let sent = send_put(bus, target, register, byte);
     stop(bus);
     sent
 }
@@ -172,14 +199,12 @@ pub fn read<B: Bus>(
     ensures none { address < 128 → length into.old ≡ 0 → result ≡ Ok tt }
     ensures kept { is_err result ≡ true → into.new ≡ into.old }
 {
-    if address > HIGHEST_ADDRESS {
-        return Err(ReadFault::Address);
-    }
+    let target = Address::new(address).ok_or(ReadFault::Address)?;
     if into.is_empty() {
         return Ok(());
     }
     start(bus);
-    let taken = send_read(bus, address, register, into);
+    let taken = send_read(bus, target, register, into);
     stop(bus);
     taken
 }

@@ -10,8 +10,11 @@ use reading::ReadingFault;
 use report::WrongSize;
 use rig::Refusal;
 
+/// The number by which a wrong form is known, after those of a rig and of a size.
+pub const WRONG_FORM: u8 = 6;
+
 /// Why a line was refused.
-#[derive(Clone, Copy)]
+#[derive(Clone, Copy, Debug)]
 pub enum Cause {
     /// It is no right line, from this column on.
     Form { column: usize },
@@ -25,12 +28,13 @@ impl Cause {
         ensures { result ≡ cause_number self }
     {
         match self {
-            Cause::Form { .. } => 6,
+            Cause::Form { .. } => WRONG_FORM,
             Cause::Reading(fault) => fault.number(),
         }
     }
 }
 
+// The `From`s are by hand, since `from_gives` says what each makes, and clauses name it.
 impl From<WrongSize> for ConsoleFault {
     ghost from_gives = { λ _ f. f ≡ Size };
 
@@ -56,7 +60,7 @@ impl From<Refusal> for Cause {
 }
 
 /// Why the console has nothing good to say.
-#[derive(Clone, Copy)]
+#[derive(Clone, Copy, Debug)]
 pub enum ConsoleFault {
     /// The buffer does not have the bytes of an answer. Nothing was done.
     Size,
@@ -74,7 +78,7 @@ impl ConsoleFault {
         ensures { result ≡ fault_number self }
     {
         match self {
-            ConsoleFault::Size => 5,
+            ConsoleFault::Size => WrongSize.number(),
             ConsoleFault::Line { cause, .. } => cause.number(),
         }
     }

@@ -6,19 +6,19 @@ ghost use Rattle.script.specs.declared.command.Command.{Command as Spoken};
 ghost use Rattle.answers.specs.Text.{text_of, at_front};
 ghost use Rattle.console.specs.Answering.{Reads, line_outcome, line_left, said, result_of, next_line, fits, answer_result, answer_left, answer_buffer, answer_length};
 ghost use Rattle.console.specs.Booting.{FirstReads, boot_outcome, boot_result, boot_length};
-ghost use Rattle.console.specs.Outcomes.{done as outcome_done, refused, outcome, left_by};
+ghost use Rattle.console.specs.Outcomes.{refused, outcome, left_by};
 ghost use Rattle.console.specs.declared.fault.ConsoleFault.TheVariants.{Line};
 ghost use Rattle.console.specs.Told.{told};
 
 mod fault;
 
-use answers::{ANSWER_BYTES, Answer, write};
-pub use fault::{Cause, ConsoleFault};
+use answers::{ANSWER_BYTES, Answer};
+pub use fault::{Cause, ConsoleFault, WRONG_FORM};
 use part::events::Pin;
 use reading::{ReadingFault, read};
 use registers::causes::Trip;
 use registers::pins::Level;
-use report::REPORT_BYTES;
+use report::{REPORT_BYTES, WrongSize};
 use rig::Rig;
 use script::Command;
 use script::first::hold_off;
@@ -33,58 +33,49 @@ pub struct Console<R> {
 }
 
 /// What a command has to say when it is done; a report stands in its buffer.
-#[derive(Clone, Copy)]
+// Not an `Answer`, which would keep that buffer borrowed and could be a refusal, which has a cause here.
+#[derive(Clone, Copy, Debug, PartialEq, Eq)]
 enum Reply {
     Done,
     Byte(u8),
     Report,
 }
 
-/// The answer to a line that was done, the report standing in its buffer.
-fn good(reply: Reply, report: &[u8; REPORT_BYTES]) -> Answer<'_>
-    ensures { (n : ℕ) → text_of result ≡ said n (told (Ok reply) report.now) }
-{
-    match reply {
-        Reply::Done => Answer::Done,
-        Reply::Byte(byte) => Answer::Byte(byte),
-        Reply::Report => Answer::Report(report),
+impl Reply {
+    /// The answer to a line that was done, the report standing in its buffer.
+    #[tactic(auto, unfolding(crate::specs::Answering::said, answers::specs::Text::text_of))]
+    fn answer(self, report: &[u8; REPORT_BYTES]) -> Answer<'_>
+        ensures { (n : ℕ) → text_of result ≡ said n (told (Ok self) report.now) }
+    {
+        match self {
+            Reply::Done => Answer::Done,
+            Reply::Byte(byte) => Answer::Byte(byte),
+            Reply::Report => Answer::Report(report),
+        }
     }
 }
 
-/// The answer to a line that was refused.
-fn refusal(line: u32, cause: Cause) -> Answer<'static>
-    ensures { text_of result ≡ said line (refused cause) }
+/// The number of the line after this one; the count rests at its greatest.
+// On its own, since a proof knows the range of a parameter, and not that of `self.line` behind the buffer's test.
+fn next_line(line: u32) -> u32
+    ensures { result ≡ next_line line }
 {
-    Answer::Refused {
-        line,
-        number: cause.number(),
-    }
-}
-
-/// Writes a good answer.
-fn put(answer: Answer<'_>, out: &mut [u8]) -> Result<usize, ConsoleFault>
-    requires { length out.old ≡ 544 }
-    ensures answers { result ≡ Ok (length (text_of answer.entry)) }
-    ensures written { out.new ≡ at_front (text_of answer.entry) out.old }
-    ensures bound { length (text_of answer.entry) ≤ 541 }
-{
-    Ok(write(answer, out)?)
+    line.saturating_add(1)
 }
 
 /// Writes the answer to a line that was refused, and makes its fault.
-fn refuse(line: u32, cause: Cause, out: &mut [u8]) -> ConsoleFault
-    requires { length out.old ≡ 544 }
+#[tactic(auto, unfolding(crate::specs::Answering::said, answers::specs::Text::text_of))]
+fn refuse(line: u32, cause: Cause, out: &mut [u8; ANSWER_BYTES]) -> ConsoleFault
     ensures fault { result ≡ Line line cause (length (said line (refused cause))) }
     ensures written { out.new ≡ at_front (said line (refused cause)) out.old }
     ensures bound { length (said line (refused cause)) ≤ 541 }
 {
-    match write(refusal(line, cause), out) {
-        Ok(length) => ConsoleFault::Line {
-            line,
-            cause,
-            length,
-        },
-        Err(_) => ConsoleFault::Size,
+    let number = cause.number();
+    let length = Answer::Refused { line, number }.put(out);
+    ConsoleFault::Line {
+        line,
+        cause,
+        length,
     }
 }
 
@@ -93,40 +84,15 @@ fn say(
     line: u32,
     reply: Result<Reply, Cause>,
     report: &[u8; REPORT_BYTES],
-    out: &mut [u8],
+    out: &mut [u8; ANSWER_BYTES],
 ) -> Result<usize, ConsoleFault>
-    requires { length out.old ≡ 544 }
     ensures answers { result ≡ result_of line (told reply report.now) }
     ensures written { out.new ≡ at_front (said line (told reply report.now)) out.old }
     ensures bound { answer_length result ≤ 541 }
 {
     match reply {
-        Ok(reply) => put(good(reply, report), out),
+        Ok(reply) => Ok(reply.answer(report).put(out)),
         Err(cause) => Err(refuse(line, cause, out)),
-    }
-}
-
-fn done() -> Answer<'static>
-    ensures { text_of result ≡ said 1 outcome_done }
-{
-    Answer::Done
-}
-
-/// Answers the first line by what it says.
-fn start(first: Result<u8, usize>, out: &mut [u8]) -> Result<(u8, usize), ConsoleFault>
-    ensures answers { result ≡ boot_result (length out.old) first }
-    ensures written { out.new ≡ answer_buffer out.old 1 (boot_outcome first) }
-    ensures bound { boot_length result ≤ 541 }
-{
-    if out.len() != ANSWER_BYTES {
-        return Err(ConsoleFault::Size);
-    }
-    match first {
-        Ok(silences) => {
-            let length = put(done(), out)?;
-            Ok((silences, length))
-        }
-        Err(column) => Err(refuse(1, Cause::Form { column }, out)),
     }
 }
 
@@ -136,11 +102,16 @@ pub fn boot(line: &[u8], out: &mut [u8]) -> Result<(u8, usize), ConsoleFault>
     ensures written { (s : Result ℕ ℕ) → FirstReads line.now s → out.new ≡ answer_buffer out.old 1 (boot_outcome s) }
     ensures bound { boot_length result ≤ 541 }
 {
-    start(hold_off(line), out)
+    let out = out.as_mut_array().ok_or(WrongSize)?;
+    match hold_off(line) {
+        Ok(silences) => Ok((silences, Answer::Done.put(out))),
+        Err(column) => Err(refuse(1, Cause::Form { column }, out)),
+    }
 }
 
 impl<R: Rig> Console<R> {
     /// Does what a command says.
+    // That address and count stay is said: a struct of rig and address would spare `line`, and lengthen each public clause.
     fn obey(&mut self, command: Command, report: &mut [u8; REPORT_BYTES]) -> Result<Reply, Cause>
         ensures answers { told result report.new ≡ outcome (R.Rig.meaning self.old.rig) self.old.address command }
         ensures after { R.Rig.meaning self.new.rig ≡ left_by (R.Rig.meaning self.old.rig) self.old.address command }
@@ -149,8 +120,8 @@ impl<R: Rig> Console<R> {
     {
         match command {
             Command::Tick { current, voltage } => self.rig.tick(current, voltage)?,
-            Command::On(high) => self.rig.pin(Pin::On, Level::of(high)),
-            Command::Pol(high) => self.rig.pin(Pin::Pol, Level::of(high)),
+            Command::On(high) => self.rig.pin(Pin::On, Level::from(high)),
+            Command::Pol(high) => self.rig.pin(Pin::Pol, Level::from(high)),
             Command::Fast => self.rig.trip(Trip::Fast),
             Command::Slow => self.rig.trip(Trip::Slow),
             Command::Put { register, byte } => self.rig.put(self.address, register, byte)?,
@@ -195,29 +166,8 @@ impl<R: Rig> Console<R> {
         }
     }
 
-    /// Answers a line by what it says. The buffer is tested ahead of everything.
-    fn answer_spoken(
-        &mut self,
-        spoken: Result<Command, usize>,
-        out: &mut [u8],
-    ) -> Result<usize, ConsoleFault>
-        ensures answers { result ≡ answer_result (length out.old) (next_line self.old.line) (line_outcome (R.Rig.meaning self.old.rig) self.old.address spoken) }
-        ensures after { R.Rig.meaning self.new.rig ≡ answer_left (length out.old) (R.Rig.meaning self.old.rig) self.old.address spoken }
-        ensures written { out.new ≡ answer_buffer out.old (next_line self.old.line) (line_outcome (R.Rig.meaning self.old.rig) self.old.address spoken) }
-        ensures counted { self.new.line ≡ (if fits (length out.old) then next_line self.old.line else self.old.line) }
-        ensures address { self.new.address ≡ self.old.address }
-        ensures bound { answer_length result ≤ 541 }
-    {
-        if out.len() != ANSWER_BYTES {
-            return Err(ConsoleFault::Size);
-        }
-        self.line = self.line.saturating_add(1);
-        let mut report = [0; REPORT_BYTES];
-        let reply = self.reply(spoken, &mut report);
-        say(self.line, reply, &report, out)
-    }
-
     /// Answers the next line at the front of the buffer, and keeps the rest of it.
+    /// The size of the buffer is tested ahead of everything.
     pub fn answer(&mut self, line: &[u8], out: &mut [u8]) -> Result<usize, ConsoleFault>
         ensures answers { (s : Result Spoken ℕ) → Reads line.now s → result ≡ answer_result (length out.old) (next_line self.old.line) (line_outcome (R.Rig.meaning self.old.rig) self.old.address s) }
         ensures after { (s : Result Spoken ℕ) → Reads line.now s → R.Rig.meaning self.new.rig ≡ answer_left (length out.old) (R.Rig.meaning self.old.rig) self.old.address s }
@@ -226,6 +176,10 @@ impl<R: Rig> Console<R> {
         ensures address { self.new.address ≡ self.old.address }
         ensures bound { answer_length result ≤ 541 }
     {
-        self.answer_spoken(command(line), out)
+        let out = out.as_mut_array().ok_or(WrongSize)?;
+        self.line = next_line(self.line);
+        let mut report = [0; REPORT_BYTES];
+        let reply = self.reply(command(line), &mut report);
+        say(self.line, reply, &report, out)
     }
 }

@@ -1,90 +1,69 @@
 //! A short tour of the library, printed stage by stage.
 #![tactic(auto)]
 
+mod compared;
+mod flight;
 mod names;
+mod page;
 mod print;
 mod stop;
-mod story;
 
 use bus::levels::Levels;
+use flight::Flight;
 use part::Part;
 use part::replay::Event;
 use registers::causes::Trip;
-use registers::pins::{Level, Pins, Strap};
+use registers::pins::Pins;
 use registers::register;
-use rig::{Direct, Patience, Rig};
+use rig::{Direct, Patience};
 use samples::ring::{Resolution, Ring};
 use samples::sample::Sample;
-use std::io;
+use std::{array, io};
 use stop::Stop;
 use wire::Wire;
 use wire::receiver::Receiver;
 
-/// The payload bay's part: enabled by its pins, and at address 0x3A.
-fn payload_bay() -> Pins {
-    Pins {
-        on: Level::High,
-        hwen: Level::High,
-        pol: Level::Low,
-        prot: Strap::Low,
-        irng: Strap::Open,
-        a1: Strap::Low,
-        a0: Strap::Low,
-    }
-}
-
 /// The same story over a direct rig, over a wire rig, and over patience 2 on a wire rig that keeps silent seven times.
 fn rigs(rt: &impl Print, address: u8) -> Result<(), Stop> {
     println!(rt; "Over a direct rig")?;
-    let mut direct = Direct::new(payload_bay(), 0);
-    story::tell(rt, &mut direct, address)?;
+    Flight::new(Direct::new(Pins::payload_bay(), 0), address).tell(rt)?;
     println!(rt; "Over a wire rig")?;
-    let mut wire = Wire::new(payload_bay(), 0);
-    story::tell(rt, &mut wire, address)?;
+    Flight::new(Wire::new(Pins::payload_bay(), 0), address).tell(rt)?;
     println!(rt; "Over patience 2 on a wire rig that owes seven silences")?;
-    let mut patient = Patience::new(Wire::new(payload_bay(), 7), 2);
-    story::wait(rt, &mut patient, address)?;
-    story::tell(rt, &mut patient, address)
+    let mut patient = Flight::new(Patience::new(Wire::new(Pins::payload_bay(), 7), 2), address);
+    patient.wait(rt)?;
+    patient.tell(rt)
 }
 
 /// Levels that are no frame: a START, bits cut short by a STOP, and a clock with nobody addressed.
 fn noise(rt: &impl Print) -> io::Result<()> {
-    let levels = [
-        pair(true, false),
-        pair(false, true),
-        pair(true, true),
-        pair(false, false),
-        pair(true, false),
-        pair(true, true),
-        pair(false, true),
-        pair(true, true),
+    let pairs = [
+        (true, false),
+        (false, true),
+        (true, true),
+        (false, false),
+        (true, false),
+        (true, true),
+        (false, true),
+        (true, true),
     ];
-    let mut receiver = Receiver::power_up(payload_bay());
-    receiver.receive_all(&levels);
+    let mut receiver = Receiver::power_up(Pins::payload_bay());
+    receiver.receive_all(&pairs.map(|(scl, sda)| Levels { scl, sda }));
     println!(rt; "A receiver after levels that are no frame")?;
     print::outputs(rt, receiver.outputs())
 }
 
-fn pair(scl: bool, sda: bool) -> Levels {
-    Levels { scl, sda }
-}
-
 /// The samples 1 to 51.
 fn ramp() -> [Sample; 51] {
-    let mut samples = [Sample::zero(); 51];
-    for k in 0..51u16 {
-        if let Some(sample) = Sample::new(k + 1) {
-            samples[k as usize] = sample;
-        }
-    }
-    samples
+    array::from_fn(|k| Sample::new(k as u16 + 1).unwrap())
 }
 
 /// Fifty-one samples go into a ring of fifty: the first one leaves it.
 fn ring(rt: &impl Print) -> io::Result<()> {
     let ring = Ring::recorded(&ramp());
     println!(rt; "A ring after the samples 1 to 51")?;
-    print::content(rt, &ring)?;
+    println!(rt; "  content, oldest first")?;
+    print::samples(rt, &ring.oldest_first().map(|sample| sample.value()))?;
     let mut full = [0; 100];
     ring.read_out(Resolution::Full, &mut full);
     print::bytes(rt, "readout, ten bits", &full)?;
@@ -106,17 +85,18 @@ fn replay(rt: &impl Print) -> io::Result<()> {
         },
         Event::Trip(Trip::Slow),
     ];
-    let part = Part::replay(payload_bay(), &events);
+    let part = Part::replay(Pins::payload_bay(), &events);
     println!(rt; "A stop delay, a tick and a slow trip, played from power-up")?;
     print::outputs(rt, part.outputs())
 }
 
 fn main(rt: HostRuntime) -> Result<(), Stop> {
-    let part = Part::power_up(payload_bay());
+    let part = Part::power_up(Pins::payload_bay());
     let address = part.address();
     println!(rt; "A part powers up at address 0x{address:02X}")?;
     print::outputs(&rt, part.outputs())?;
     rigs(&rt, address)?;
+    compared::tell(&rt, Pins::payload_bay(), address)?;
     noise(&rt)?;
     ring(&rt)?;
     replay(&rt)?;

@@ -1,6 +1,7 @@
 //! What a reader calls each register.
 use registers::register;
 
+// A `match` on the names of the numbers, and no table: a table by number would need its holes filled.
 /// The name of a register and what it is for; none of a number that has no use.
 pub(crate) fn of(number: u8) -> Option<(&'static str, &'static str)> {
     let names = match number {

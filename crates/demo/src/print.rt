@@ -1,82 +1,63 @@
-//! Registers, pins, rings and bytes as a person reads them.
+//! Registers, pins, samples and bytes as a person reads them.
 use crate::names;
-use crate::stop::Stop;
 use part::Outputs;
-use registers::pins::Level;
-use registers::register;
-use rig::Rig;
-use samples::ring::Ring;
+use registers::register::COUNT;
 use std::io;
 
-fn word(level: Level) -> &'static str {
-    match level {
-        Level::Low => "low",
-        Level::High => "high",
-    }
-}
-
 pub(crate) fn outputs(rt: &impl Print, outputs: Outputs) -> io::Result<()> {
-    let fault = word(outputs.fault);
-    let alert = word(outputs.alert);
-    let pg = word(outputs.pg);
+    let Outputs { fault, alert, pg } = outputs;
     println!(rt; "  FAULT {fault}, ALERT {alert}, PG {pg}")
 }
 
-/// The output pins and the status and log registers that are not 0.
-pub(crate) fn status<R: Rig>(rt: &impl Print, rig: &mut R, address: u8) -> Result<(), Stop> {
-    outputs(rt, rig.outputs())?;
-    for number in register::STATUS0..=register::FAULT2 {
-        named(rt, number, rig.get(address, number)?)?;
+/// A register by name, with what it is for; nothing of a number that has no use.
+pub(crate) fn named(rt: &impl Print, number: u8, byte: u8) -> io::Result<()> {
+    match names::of(number) {
+        Some((name, meaning)) => {
+            println!(rt; "    {number:02X} {name:<16} {byte:02X}  {meaning}")
+        }
+        None => Ok(()),
     }
-    Ok(())
+}
+
+pub(crate) fn unless_zero(rt: &impl Print, number: u8, byte: u8) -> io::Result<()> {
+    if byte == 0 {
+        return Ok(());
+    }
+    named(rt, number, byte)
+}
+
+/// The cells of a row, and its end.
+fn row<T, F: Fn(&T) -> io::Result<()>>(rt: &impl Print, cells: &[T], cell: F) -> io::Result<()>
+    requires { F.IsAlwaysCallable cell }
+{
+    for x in cells {
+        cell(x)?;
+    }
+    println!(rt)
+}
+
+fn byte_row(rt: &impl Print, bytes: &[u8]) -> io::Result<()> {
+    row(rt, bytes, |byte| print!(rt; " {byte:02X}"))
 }
 
 /// All registers, eight to a row, and then those that are not 0 by name.
-pub(crate) fn registers<R: Rig>(rt: &impl Print, rig: &mut R, address: u8) -> Result<(), Stop> {
+pub(crate) fn registers(rt: &impl Print, bytes: &[u8; COUNT]) -> io::Result<()> {
     println!(rt; "  registers")?;
-    for number in 0..register::COUNT as u8 {
-        cell(rt, number, rig.get(address, number)?)?;
-    }
-    println!(rt)?;
-    for number in 0..register::COUNT as u8 {
-        named(rt, number, rig.get(address, number)?)?;
-    }
-    Ok(())
-}
-
-fn cell(rt: &impl Print, number: u8, byte: u8) -> io::Result<()> {
-    if number % 8 == 0 {
+    for (number, eight) in (0..COUNT).step_by(8).zip(bytes.chunks(8)) {
         print!(rt; "    {number:02X}:")?;
+        byte_row(rt, eight)?;
     }
-    print!(rt; " {byte:02X}")?;
-    if number % 8 == 7 {
-        println!(rt)?;
+    for (number, byte) in (0..COUNT as u8).zip(bytes.iter()) {
+        unless_zero(rt, number, *byte)?;
     }
     Ok(())
 }
 
-fn named(rt: &impl Print, number: u8, byte: u8) -> io::Result<()> {
-    match names::of(number) {
-        Some((name, meaning)) if byte != 0 => {
-            println!(rt; "    {number:02X} {name:<16} {byte:02X}  {meaning}")
-        }
-        _ => Ok(()),
-    }
-}
-
-/// The samples of a ring, the oldest first, ten to a row.
-pub(crate) fn content(rt: &impl Print, ring: &Ring) -> io::Result<()> {
-    println!(rt; "  content, oldest first")?;
-    let content = ring.oldest_first();
-    for (k, sample) in content.iter().enumerate() {
-        let value = sample.value();
-        if k % 10 == 0 {
-            print!(rt; "   ")?;
-        }
-        print!(rt; " {value:4}")?;
-        if k % 10 == 9 {
-            println!(rt)?;
-        }
+/// Samples, ten to a row.
+pub(crate) fn samples(rt: &impl Print, samples: &[u16]) -> io::Result<()> {
+    for ten in samples.chunks(10) {
+        print!(rt; "   ")?;
+        row(rt, ten, |sample| print!(rt; " {sample:4}"))?;
     }
     Ok(())
 }
@@ -84,17 +65,13 @@ pub(crate) fn content(rt: &impl Print, ring: &Ring) -> io::Result<()> {
 /// Bytes, twenty to a row.
 pub(crate) fn bytes(rt: &impl Print, title: &str, bytes: &[u8]) -> io::Result<()> {
     println!(rt; "  {title}")?;
-    for (k, byte) in bytes.iter().enumerate() {
-        if k % 20 == 0 {
-            print!(rt; "   ")?;
-        }
-        print!(rt; " {byte:02X}")?;
-        if k % 20 == 19 {
-            println!(rt)?;
-        }
-    }
-    if bytes.len() % 20 != 0 {
-        println!(rt)?;
+    byte_rows(rt, bytes)
+}
+
+pub(crate) fn byte_rows(rt: &impl Print, bytes: &[u8]) -> io::Result<()> {
+    for twenty in bytes.chunks(20) {
+        print!(rt; "   ")?;
+        byte_row(rt, twenty)?;
     }
     Ok(())
 }

@@ -1,21 +1,17 @@
 //! Why the tour ends early.
+use reading::ReadingFault;
 use rig::Refusal;
 use std::io;
+use thiserror::Error;
 
-#[derive(Debug, Drop)]
+#[derive(Debug, Drop, Error)]
 pub enum Stop {
-    Io(io::Error),
-    Refused(Refusal),
-}
-
-impl From<io::Error> for Stop {
-    fn from(e: io::Error) -> Stop {
-        Stop::Io(e)
-    }
-}
-
-impl From<Refusal> for Stop {
-    fn from(e: Refusal) -> Stop {
-        Stop::Refused(e)
-    }
+    #[error("printing: {0}")]
+    Io(#[from] io::Error),
+    #[error("a call was refused: {0:?}")]
+    Refused(#[from] Refusal),
+    #[error("no report was made: {0:?}")]
+    Unread(#[from] ReadingFault),
+    #[error("power-good never came")]
+    NeverGood,
 }

@@ -1,5 +1,6 @@
 pub mod Monitors
 pub mod Model
+pub mod Lending
 pub mod Shown
 pub mod Channel
 pub mod Tick

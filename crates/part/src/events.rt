@@ -20,26 +20,22 @@ pub enum Pin {
 
 impl Part {
     /// A pin goes to a level.
+    #[tactic(auto, unfolding(crate::specs::Events::step))]
     pub fn pin(&mut self, pin: Pin, level: Level)
         ensures { model self.new ≡ step (model self.old) (pins pin level) }
     {
-        let majority = self.majority();
-        let channel = self.channel();
-        match pin {
-            Pin::On => self.pins.on = level,
-            Pin::Pol => self.pins.pol = level,
-        }
-        self.settle(majority, channel);
+        self.event(|part| match pin {
+            Pin::On => part.pins.on = level,
+            Pin::Pol => part.pins.pol = level,
+        });
     }
 
     /// The breaker trips. With the channel off this does nothing.
+    #[tactic(auto, unfolding(crate::specs::Events::step))]
     pub fn trip(&mut self, trip: Trip)
         ensures { model self.new ≡ step (model self.old) (trips trip) }
     {
-        let majority = self.majority();
-        let channel = self.channel();
-        self.latch(trip);
-        self.settle(majority, channel);
+        self.event(|part| part.latch(trip));
     }
 
     fn latch(&mut self, trip: Trip)
@@ -55,13 +51,11 @@ impl Part {
     }
 
     /// A byte is written to a register. Past the last register, and at one that ignores writes, nothing changes.
+    #[tactic(auto, unfolding(crate::specs::Events::step))]
     pub fn write(&mut self, number: u8, byte: u8)
         ensures { model self.new ≡ step (model self.old) (writes number byte) }
     {
-        let majority = self.majority();
-        let channel = self.channel();
-        self.overwrite(number, byte);
-        self.settle(majority, channel);
+        self.event(|part| part.overwrite(number, byte));
     }
 
     fn overwrite(&mut self, number: u8, byte: u8)
@@ -91,10 +85,7 @@ impl Part {
         ensures { result ≡ byte_at (resolution_of (model self.now).settings signal) (monitor signal (model self.now)).ring k }
     {
         let resolution = self.settings.resolution(signal);
-        match signal {
-            Signal::Current => self.current.ring.byte(resolution, k),
-            Signal::Voltage => self.voltage.ring.byte(resolution, k),
-        }
+        self.monitor(signal).ring.byte(resolution, k)
     }
 
     /// The ring of a signal is read out into the buffer, as fine as its resolution bit asks, and stops.
@@ -103,15 +94,8 @@ impl Part {
         ensures bytes { out.new ≡ readout (resolution_of (model self.old).settings signal) (monitor signal (model self.old)).ring (length out.old) }
     {
         let resolution = self.settings.resolution(signal);
-        match signal {
-            Signal::Current => {
-                self.current.ring.read_out(resolution, out);
-                self.current.stop();
-            }
-            Signal::Voltage => {
-                self.voltage.ring.read_out(resolution, out);
-                self.voltage.stop();
-            }
-        }
+        let monitor = self.monitor_mut(signal);
+        monitor.ring.read_out(resolution, out);
+        monitor.stop();
     }
 }

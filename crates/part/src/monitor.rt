@@ -1,7 +1,7 @@
 //! What the part keeps of one signal: its latest sample, its extremes and its ring.
 ghost use Rattle.std.specs.Prelude.{◌≡◌, if◌then◌else◌};
 ghost use Rattle.part.specs.Monitors.{monitored, fresh};
-ghost use Rattle.part.specs.Channel.{slowed as slowed_by, settled_monitor};
+ghost use Rattle.part.specs.Channel.{slowed as slowed_by, turned_monitor};
 ghost use Rattle.part.specs.Tick.{moving, one_less as one_less_of, sampled_monitor};
 ghost use Rattle.part.specs.Events.{woken, with_state};
 
@@ -16,6 +16,13 @@ pub enum RingState {
     Stopped,
 }
 
+/// How the channel has turned in an event. Where it has turned off, a running ring goes on for the delay.
+#[derive(Clone, Copy)]
+pub(crate) enum Turn {
+    On,
+    Off { delay: u8 },
+}
+
 /// The smallest and the largest sample counted since they were last reset.
 #[derive(Clone, Copy)]
 pub struct Extremes {
@@ -24,6 +31,7 @@ pub struct Extremes {
 }
 
 /// One signal.
+// No model: the part reads its fields, and its clauses speak of them.
 #[derive(Drop)]
 pub struct Monitor {
     pub(crate) latest: Sample,
@@ -100,10 +108,10 @@ impl Monitor {
     {
         self.latest = sample;
         if counts {
-            if sample.value() < self.extremes.smallest.value() {
+            if sample < self.extremes.smallest {
                 self.extremes.smallest = sample;
             }
-            if self.extremes.largest.value() < sample.value() {
+            if self.extremes.largest < sample {
                 self.extremes.largest = sample;
             }
         }
@@ -113,17 +121,17 @@ impl Monitor {
         self.state = self.state.ticked();
     }
 
-    /// An event is over: `forget` resets the extremes, and the channel may have turned on or off.
-    pub(crate) fn settle(&mut self, forget: bool, on: bool, off: bool, delay: u8)
-        ensures { monitored self.new ≡ settled_monitor forget on off delay (monitored self.old) }
+    /// An event is over: `forget` resets the extremes, and the channel may have turned.
+    pub(crate) fn settle(&mut self, forget: bool, turn: Option<Turn>)
+        ensures { monitored self.new ≡ turned_monitor forget turn (monitored self.old) }
     {
         if forget {
             self.extremes = Extremes::reset();
         }
-        if on {
-            self.state = RingState::Running;
-        } else if off {
-            self.state = self.state.slowed(delay);
+        match turn {
+            Some(Turn::On) => self.state = RingState::Running,
+            Some(Turn::Off { delay }) => self.state = self.state.slowed(delay),
+            None => {}
         }
     }
 
@@ -131,9 +139,8 @@ impl Monitor {
     pub(crate) fn restart(&mut self, runs: bool)
         ensures { monitored self.new ≡ with_state (monitored self.old) (if runs then woken self.old.state else self.old.state) }
     {
-        match self.state {
-            RingState::Stopped if runs => self.state = RingState::Running,
-            _ => {}
+        if runs && self.state == RingState::Stopped {
+            self.state = RingState::Running
         }
     }
 

@@ -4,21 +4,9 @@ ghost use Rattle.part.specs.Model.{model};
 ghost use Rattle.part.specs.Shown.{prot_bits, input_byte, status_byte, byte_of, register as register_of, outputs as outputs_of};
 
 use crate::{Outputs, Part};
-use registers::causes::bit;
+use registers::bits::{ALERT, ON, POL, POWER_GOOD, PROT, bit};
 use registers::pins::{Level, Strap};
 use registers::register;
-
-const ON: u8 = 0x01;
-
-const PROT_HIGH: u8 = 0x40;
-
-const PROT_OPEN: u8 = 0x80;
-
-const POWER_GOOD: u8 = 0x01;
-
-const ALERT: u8 = 0x10;
-
-const POL: u8 = 0x20;
 
 fn prot(strap: Strap) -> u8
     ensures value { result ≡ prot_bits strap }
@@ -26,21 +14,18 @@ fn prot(strap: Strap) -> u8
 {
     match strap {
         Strap::Low => 0,
-        Strap::High => PROT_HIGH,
-        Strap::Open => PROT_OPEN,
+        Strap::High => PROT,
+        Strap::Open => 2 * PROT,
     }
 }
 
 impl Part {
     /// The byte that a register shows; none past the last register.
+    #[tactic(auto, unfolding(crate::specs::Shown::shown))]
     pub fn register(&self, number: u8) -> Option<u8>
         ensures { result ≡ register_of (model self.now) number }
     {
-        if (number as usize) < register::COUNT {
-            Some(self.byte(number))
-        } else {
-            None
-        }
+        ((number as usize) < register::COUNT).then(|| self.byte(number))
     }
 
     fn byte(&self, number: u8) -> u8
@@ -84,6 +69,7 @@ impl Part {
     }
 
     /// The levels of the output pins.
+    #[tactic(auto, unfolding(crate::specs::Shown::outputs))]
     pub fn outputs(&self) -> Outputs
         ensures { result ≡ outputs_of (model self.now) }
     {
@@ -93,9 +79,9 @@ impl Part {
             !self.power_good
         };
         Outputs {
-            fault: Level::of(!self.logs.fault()),
-            alert: Level::of(!self.logs.alert()),
-            pg: Level::of(pg),
+            fault: Level::from(!self.logs.fault()),
+            alert: Level::from(!self.logs.alert()),
+            pg: Level::from(pg),
         }
     }
 }

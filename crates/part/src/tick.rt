@@ -3,6 +3,7 @@ ghost use Rattle.std.specs.Prelude.{◌≡◌, ◌&&◌};
 ghost use Rattle.part.specs.Model.{model};
 ghost use Rattle.part.specs.Tick.{counts as counts_of, stores as stores_of, beyond as beyond_of, positive as positive_of, acts as acts_of, critical as critical_of, guards as guards_of, latches as latches_of, next_count, next_good, measured};
 ghost use Rattle.part.specs.Events.{step, tick as ticks};
+ghost use Rattle.registers.specs.declared.causes.Compare.TheVariants.{Uv1, Uv2, Ov1, Ov2, Oi};
 
 use crate::Part;
 use registers::causes::{Compare, Compares, Logs};
@@ -13,29 +14,35 @@ use samples::signal::Signal;
 /// The good count rests here.
 const LONGEST_COUNT: u16 = 4000;
 
+/// The samples of a tick.
+#[derive(Clone, Copy)]
+struct Samples {
+    current: Sample,
+    voltage: Sample,
+}
+
 impl Part {
     /// A tick brings a current and a voltage sample.
+    #[tactic(auto, unfolding(crate::specs::Events::step))]
     pub fn tick(&mut self, current: Sample, voltage: Sample)
         ensures { model self.new ≡ step (model self.old) (ticks current.value voltage.value) }
     {
-        let majority = self.majority();
-        let channel = self.channel();
-        self.measure(current, voltage);
-        self.settle(majority, channel);
+        self.event(|part| part.measure(Samples { current, voltage }));
     }
 
-    fn measure(&mut self, current: Sample, voltage: Sample)
-        ensures { model self.new ≡ measured (model self.old) current.value voltage.value }
+    fn measure(&mut self, samples: Samples)
+        ensures { model self.new ≡ measured (model self.old) samples.current.value samples.voltage.value }
     {
-        let logs = self.logged(current, voltage);
-        let earlier = self.positives(current, voltage);
-        let count = self.next_count(current, voltage);
-        let good = self.next_good(current, voltage);
-        let latch = self.critical(current, voltage) && latches(self.pins.prot);
+        // both signals by name, as in `settle`: a loop over two would be no shorter
+        let logs = self.logged(samples);
+        let earlier = self.positives(samples);
+        let count = self.next_count(samples);
+        let good = self.next_good(samples);
+        let latch = self.critical(samples) && latches(self.pins.prot);
         let count_current = self.counts(Signal::Current);
         let count_voltage = self.counts(Signal::Voltage);
-        let store_current = self.current.state.is_moving() && self.settings.runs(Signal::Current);
-        let store_voltage = self.voltage.state.is_moving() && self.settings.runs(Signal::Voltage);
+        let store_current = self.stores(Signal::Current);
+        let store_voltage = self.stores(Signal::Voltage);
         if latch {
             self.latched = true;
         }
@@ -43,8 +50,10 @@ impl Part {
         self.earlier = earlier;
         self.good_count = count;
         self.power_good = good;
-        self.current.take(current, count_current, store_current);
-        self.voltage.take(voltage, count_voltage, store_voltage);
+        self.current
+            .take(samples.current, count_current, store_current);
+        self.voltage
+            .take(samples.voltage, count_voltage, store_voltage);
     }
 
     fn counts(&self, signal: Signal) -> bool
@@ -53,90 +62,94 @@ impl Part {
         !self.settings.holds(signal) && !self.settings.resets(signal)
     }
 
-    fn beyond(&self, compare: Compare, current: Sample, voltage: Sample) -> bool
-        ensures { result ≡ beyond_of (model self.now) current.value voltage.value compare }
+    fn stores(&self, signal: Signal) -> bool
+        ensures { result ≡ stores_of (model self.now) signal }
+    {
+        self.monitor(signal).state.is_moving() && self.settings.runs(signal)
+    }
+
+    fn beyond(&self, compare: Compare, samples: Samples) -> bool
+        ensures { result ≡ beyond_of (model self.now) samples.current.value samples.voltage.value compare }
     {
         let threshold = self.settings.threshold(compare);
         match compare {
-            Compare::Uv1 | Compare::Uv2 => voltage.value() < threshold,
-            Compare::Ov1 | Compare::Ov2 => threshold < voltage.value(),
-            Compare::Oi => threshold < current.value(),
+            Compare::Uv1 | Compare::Uv2 => samples.voltage.value() < threshold,
+            Compare::Ov1 | Compare::Ov2 => threshold < samples.voltage.value(),
+            Compare::Oi => threshold < samples.current.value(),
         }
     }
 
-    fn positive(&self, compare: Compare, current: Sample, voltage: Sample) -> bool
-        ensures { result ≡ positive_of (model self.now) current.value voltage.value compare }
+    fn positive(&self, compare: Compare, samples: Samples) -> bool
+        ensures { result ≡ positive_of (model self.now) samples.current.value samples.voltage.value compare }
     {
-        self.beyond(compare, current, voltage) && self.power_good
+        self.beyond(compare, samples) && self.power_good
     }
 
-    fn acts(&self, compare: Compare, current: Sample, voltage: Sample) -> bool
-        ensures { result ≡ acts_of (model self.now) current.value voltage.value compare }
+    fn acts(&self, compare: Compare, samples: Samples) -> bool
+        ensures { result ≡ acts_of (model self.now) samples.current.value samples.voltage.value compare }
     {
-        self.positive(compare, current, voltage)
+        self.positive(compare, samples)
             && (!self.settings.deglitches(compare) || self.earlier.get(compare))
     }
 
-    fn critical(&self, current: Sample, voltage: Sample) -> bool
-        ensures { result ≡ critical_of (model self.now) current.value voltage.value }
+    fn critical(&self, samples: Samples) -> bool
+        ensures { result ≡ critical_of (model self.now) samples.current.value samples.voltage.value }
     {
-        self.acts(Compare::Uv2, current, voltage) || self.acts(Compare::Ov2, current, voltage)
+        self.acts(Compare::Uv2, samples) || self.acts(Compare::Ov2, samples)
     }
 
-    fn positives(&self, current: Sample, voltage: Sample) -> Compares
-        ensures { result ≡ (measured (model self.now) current.value voltage.value).earlier }
+    fn positives(&self, samples: Samples) -> Compares
+        ensures { result ≡ (measured (model self.now) samples.current.value samples.voltage.value).earlier }
     {
-        Compares {
-            uv1: self.positive(Compare::Uv1, current, voltage),
-            uv2: self.positive(Compare::Uv2, current, voltage),
-            ov1: self.positive(Compare::Ov1, current, voltage),
-            ov2: self.positive(Compare::Ov2, current, voltage),
-            oi: self.positive(Compare::Oi, current, voltage),
+        flags(|compare| self.positive(compare, samples))
+    }
+
+    fn logged(&self, samples: Samples) -> Logs
+        ensures { result ≡ (measured (model self.now) samples.current.value samples.voltage.value).logs }
+    {
+        let compares = flags(|compare| self.acts(compare, samples)
+            || self.logs.compares.get(compare));
+        Logs {
+            compares,
+            ..self.logs
         }
     }
 
-    fn logged(&self, current: Sample, voltage: Sample) -> Logs
-        ensures { result ≡ (measured (model self.now) current.value voltage.value).logs }
+    fn next_count(&self, samples: Samples) -> u16
+        ensures { result ≡ next_count (model self.now) samples.current.value samples.voltage.value }
     {
-        let mut logs = self.logs;
-        if self.acts(Compare::Uv1, current, voltage) {
-            logs.compares.uv1 = true;
-        }
-        if self.acts(Compare::Uv2, current, voltage) {
-            logs.compares.uv2 = true;
-        }
-        if self.acts(Compare::Ov1, current, voltage) {
-            logs.compares.ov1 = true;
-        }
-        if self.acts(Compare::Ov2, current, voltage) {
-            logs.compares.ov2 = true;
-        }
-        if self.acts(Compare::Oi, current, voltage) {
-            logs.compares.oi = true;
-        }
-        logs
-    }
-
-    fn next_count(&self, current: Sample, voltage: Sample) -> u16
-        ensures { result ≡ next_count (model self.now) current.value voltage.value }
-    {
-        let low = self.beyond(Compare::Uv2, current, voltage);
-        let high = self.beyond(Compare::Ov2, current, voltage);
+        let low = self.beyond(Compare::Uv2, samples);
+        let high = self.beyond(Compare::Ov2, samples);
         if low || high || !self.channel() {
             0
-        } else if self.good_count < LONGEST_COUNT - 1 {
-            self.good_count + 1
         } else {
-            LONGEST_COUNT
+            self.good_count.saturating_add(1).min(LONGEST_COUNT)
         }
     }
 
-    fn next_good(&self, current: Sample, voltage: Sample) -> bool
-        ensures { result ≡ next_good (model self.now) current.value voltage.value }
+    fn next_good(&self, samples: Samples) -> bool
+        ensures { result ≡ next_good (model self.now) samples.current.value samples.voltage.value }
     {
-        let long_enough = self.settings.good_delay() <= self.next_count(current, voltage);
-        long_enough
-            || self.power_good && !(self.critical(current, voltage) && guards(self.pins.prot))
+        let long_enough = self.settings.good_delay() <= self.next_count(samples);
+        long_enough || self.power_good && !(self.critical(samples) && guards(self.pins.prot))
+    }
+}
+
+/// The flags that a test of each compare gives.
+fn flags<F: Fn(Compare) -> bool>(test: F) -> Compares
+    requires { F.IsAlwaysCallable test }
+    ensures uv1 { F.post test Uv1 result.uv1 }
+    ensures uv2 { F.post test Uv2 result.uv2 }
+    ensures ov1 { F.post test Ov1 result.ov1 }
+    ensures ov2 { F.post test Ov2 result.ov2 }
+    ensures oi { F.post test Oi result.oi }
+{
+    Compares {
+        uv1: test(Compare::Uv1),
+        uv2: test(Compare::Uv2),
+        ov1: test(Compare::Ov1),
+        ov2: test(Compare::Ov2),
+        oi: test(Compare::Oi),
     }
 }
 

@@ -13,11 +13,11 @@ use Rattle.samples.specs.declared.signal.Signal.TheVariants.{Current, Voltage}
 use Rattle.registers.specs.Questions.{setting, bit, run_weight, resolution}
 use Rattle.part.specs.Model.{monitor}
 use Rattle.part.specs.Events.{step, block as read_out}
-use Rattle.rig.specs.Meaning.{Meaning, block, sized, ring_base, ring_at, hears, block_of, accepts, reaches, next, filled}
+use Rattle.rig.specs.Meaning.{Meaning, block, sized, ring_base, ring_at, base_of, hears, block_of, accepts, reaches, next, filled}
 use Rattle.rig.proofs.Bus.{same_meaning, block_accepted}
 use Rattle.reading.specs.Report.{as_told, ring_told}
 use Rattle.reading.specs.Reading.{ring_read}
-use Rattle.reading.specs.Readouts.{base_of, bit_resolution, ring_bytes, turn, told_at}
+use Rattle.reading.specs.Readouts.{bit_resolution, ring_bytes, turn, told_at}
 use Rattle.reading.proofs.Calls.{either_same, nothing_owed}
 
 module _ (xs bytes : List ℕ) where

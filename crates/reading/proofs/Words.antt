@@ -1,5 +1,7 @@
 -- Samples as bytes: sixteen bits each, the high byte first.
-use Rattle.std.proofs.Common.{◌≡◌, ℕ, zero, suc, ◌+◌, ◌*◌, ◌/◌, ◌%◌, ◌<◌, ◌≤◌, List, [], ◌∷◌, ◌++◌, length, get_or, drop, sym, refl, ap, ◌∙◌, append_assoc, append-nil, arith}
+use Rattle.std.proofs.Common.{◌≡◌, ℕ, zero, suc, ◌+◌, ◌*◌, ◌/◌, ◌%◌, ◌<◌, ◌≤◌, ◌≢◌, List, [], ◌∷◌, ◌++◌, length, get_or, drop, sym, refl, ap, ◌∙◌, ⊎_elim, append_assoc, append-nil, arith}
+use Rattle.std.specs.Int.{w16, to_be_bytes}
+use Rattle.std.proofs.lemmas.Bool.{cases_eq}
 use borrow.Rule.Slice.PartMut.{put_mid, post_of}
 use Rattle.std.proofs.lemmas.List.{take_at, drop_at, drop_all, length-append, length-drop}
 use Rattle.reading.specs.Report.{words}
@@ -24,6 +26,22 @@ low_word (x ∷ xs) (suc k) h = ap (λ j. get_or (words (x ∷ xs)) j 0) (two_on
   where
     two_on : (k : ℕ) → 2 * suc k + 1 ≡ suc (suc (2 * k + 1))
     two_on k = omega arith
+
+-- byte k, as two bytes are taken from a sample
+pub word_at : (xs : List ℕ) (k : ℕ) → k < 2 * length xs → get_or xs (k / 2) 0 < 65536 → get_or (to_be_bytes w16 (get_or xs (k / 2) 0)) (k % 2) 0 ≡ get_or (words xs) k 0
+word_at xs k h fits =
+    let x = get_or xs (k / 2) 0 in
+    ⊎_elim
+    (λ (even : k % 2 ≡ 0).
+    let at : 2 * (k / 2) ≡ k = omega arith in
+    let high : get_or (to_be_bytes w16 x) 0 0 ≡ x / 256 = omega arith in
+    rw even (high ∙ sym (high_word xs (k / 2) (omega arith)) ∙ ap (λ j. get_or (words xs) j 0) at))
+    (λ (odd : k % 2 ≢ 0).
+    let at : 2 * (k / 2) + 1 ≡ k = omega arith in
+    let one : k % 2 ≡ 1 = omega arith in
+    let low : get_or (to_be_bytes w16 x) 1 0 ≡ x % 256 = omega arith in
+    rw one (low ∙ sym (low_word xs (k / 2) (omega arith)) ∙ ap (λ j. get_or (words xs) j 0) at))
+    (cases_eq (k % 2) 0)
 
 -- three parts written one after the other into a buffer of their joint length
 pub three_parts : (xs a b c x y z : List ℕ) → length xs ≡ 270 → length x ≡ 70 → length y ≡ 100 → length z ≡ 100 → a ≡ x → b ≡ y → c ≡ z

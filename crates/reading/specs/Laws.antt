@@ -7,12 +7,12 @@ use Rattle.registers.specs.Pins.{address_of, level_of}
 use Rattle.registers.specs.Questions.{resolution}
 use Rattle.registers.specs.Rows.{listed}
 use Rattle.part.specs.declared.events.Pin.TheVariants.{On, Pol}
-use Rattle.rig.specs.Meaning.{Meaning, Call, get, block, hears}
+use Rattle.rig.specs.Meaning.{Meaning, Call, get, block, hears, base_of}
 use Rattle.history.specs.Histories.{History, reached, and_then, Answers}
 use Rattle.history.specs.Points.{setting_point, prot_point, level_point, good_point, latest_point, smallest_point, largest_point, cause_point, short_point, ring_point, Agree}
 use Rattle.report.specs.View.{setting_in, prot_in, on_in, pol_in, good_in, latest_in, smallest_in, largest_in, cause_in, sample_in}
 use Rattle.reading.specs.Report.{report}
-use Rattle.reading.specs.Readouts.{base_of, ring_bytes}
+use Rattle.reading.specs.Readouts.{ring_bytes}
 use Rattle.reading.specs.Reading.{sized}
 
 -- ---- when a reading finishes

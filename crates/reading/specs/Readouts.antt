@@ -3,12 +3,7 @@ use Rattle.std.specs.Prelude.{ℕ, ◌+◌, ◌*◌, ◌%◌, cond, List, slice_
 use Rattle.samples.specs.declared.ring.Resolution.{Resolution}
 use Rattle.samples.specs.declared.ring.Resolution.TheVariants.{Short, Full}
 use Rattle.samples.specs.declared.signal.Signal.{Signal}
-use Rattle.samples.specs.declared.signal.Signal.TheVariants.{Current, Voltage}
 use Rattle.registers.specs.Questions.{bit, run_weight}
-
-abbrev pub base_of : Signal → ℕ
-base_of Voltage = 0x46
-base_of Current = 0x47
 
 -- the resolution bits in the registers that were read
 abbrev pub bit_resolution : List ℕ → Signal → Resolution

@@ -22,6 +22,7 @@ fn same(left: &[u8], right: &[u8]) -> bool
 }
 
 /// Reads both rigs, the left one first, and tells whether the two reports are the same.
+// Six parameters and no struct for either side: of two borrows in a struct each clause would have to say whose they are.
 pub fn compare<L: Rig, R: Rig>(
     left: &mut L,
     left_address: u8,

@@ -12,8 +12,9 @@ pub(crate) fn read_all<R: Rig>(rig: &mut R, address: u8) -> Result<[u8; COUNT], 
     ensures { MatchResult result (λ bytes. (bytes ≡ registers (R.Rig.meaning rig.old).part) × (hears (R.Rig.meaning rig.old) address ≡ true) × (R.Rig.meaning rig.new ≡ R.Rig.meaning rig.old)) (λ e. (e ≡ Silence) × (hears (R.Rig.meaning rig.old) address ≡ false) × (R.Rig.meaning rig.new ≡ next (R.Rig.meaning rig.old) (gets address 0))) }
 {
     let mut bytes = [0; COUNT];
-    for number in 0..COUNT {
-        bytes[number] = rig.get(address, number as u8)?;
+    // no `try_from_fn`, whose clause says nothing of what the calls leave of the rig
+    for (number, byte) in bytes.iter_mut().enumerate() {
+        *byte = rig.get(address, number as u8)?;
     }
     Ok(bytes)
 }

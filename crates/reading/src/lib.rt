@@ -13,7 +13,7 @@ mod rings;
 
 pub use comparing::compare;
 use parts::Parts;
-use report::REPORT_BYTES;
+use report::{REPORT_BYTES, WrongSize};
 use rig::{Refusal, Rig};
 
 /// Why there is no report.
@@ -31,12 +31,13 @@ impl ReadingFault {
         ensures { result ≡ fault_number self }
     {
         match self {
-            ReadingFault::Size => 5,
+            ReadingFault::Size => WrongSize.number(),
             ReadingFault::Refused(refusal) => refusal.number(),
         }
     }
 }
 
+// By hand, since `from_gives` says what it makes, and a clause of the console names it.
 impl From<Refusal> for ReadingFault {
     ghost from_gives = { λ e f. f ≡ Refused e };
 
@@ -46,6 +47,7 @@ impl From<Refusal> for ReadingFault {
 }
 
 /// Writes the report on the part at an address. A refused reading leaves the buffer as it was.
+// The address is a parameter, as in the rig's own calls: a struct with it would add a clause to each that it is kept.
 pub fn read<R: Rig>(rig: &mut R, address: u8, report: &mut [u8]) -> Result<(), ReadingFault>
     ensures answers { result ≡ read_result (R.Rig.meaning rig.old) address (length report.old) }
     ensures after { R.Rig.meaning rig.new ≡ read_next (R.Rig.meaning rig.old) address (length report.old) }

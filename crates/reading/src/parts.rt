@@ -22,17 +22,13 @@ pub(crate) struct Parts {
     current: [u16; LENGTH],
 }
 
+// Byte by byte, since the proof knows a byte's place in the report: chunks of two would have to be told apart again.
 /// Byte `k` of the samples as sixteen bits each, the high byte first.
 fn sample_byte(samples: &[u16; LENGTH], k: usize) -> u8
     requires { k < 100 }
     ensures { result ≡ slice_index (words samples.now) k }
 {
-    let sample = samples[k / 2];
-    if k % 2 == 0 {
-        (sample / 256) as u8
-    } else {
-        (sample % 256) as u8
-    }
+    samples[k / 2].to_be_bytes()[k % 2]
 }
 
 fn write_samples(samples: &[u16; LENGTH], out: &mut [u8])

@@ -5,39 +5,15 @@ ghost use Rattle.registers.specs.Questions.{setting};
 ghost use Rattle.rig.specs.Meaning.{hears};
 ghost use Rattle.reading.specs.Report.{ring_told};
 ghost use Rattle.reading.specs.Reading.{ring_read};
-ghost use Rattle.reading.specs.Readouts.{told_at, bit_resolution, base_of, ring_bytes};
+ghost use Rattle.reading.specs.Readouts.{told_at, ring_bytes};
 
-use registers::register;
 use registers::register::COUNT;
-use rig::{LONGEST_BLOCK, Refusal, Rig};
+use registers::{bits, register};
+use rig::{LONGEST_BLOCK, Refusal, Rig, base_of};
 use samples::place;
 use samples::ring::{LENGTH, Resolution};
 use samples::signal::Signal;
-
-/// Where the ring of a signal is read out.
-fn base(signal: Signal) -> u8
-    ensures { result ≡ base_of signal }
-{
-    match signal {
-        Signal::Current => register::CBUF_BA_I,
-        Signal::Voltage => register::CBUF_BA_V,
-    }
-}
-
-/// The resolution that a ring's bit asks for.
-fn resolution(registers: &[u8; COUNT], signal: Signal) -> Resolution
-    ensures { result ≡ bit_resolution registers.now signal }
-{
-    let weight = match signal {
-        Signal::Current => 2,
-        Signal::Voltage => 1,
-    };
-    if registers[register::CBUFRD_HIBYONLY as usize] / weight % 2 == 1 {
-        Resolution::Short
-    } else {
-        Resolution::Full
-    }
-}
+use std::array;
 
 /// How many bytes the readout of a whole ring has.
 fn readout_bytes(resolution: Resolution) -> usize
@@ -64,11 +40,7 @@ fn sample(readout: &[u8; LONGEST_BLOCK], resolution: Resolution, place: usize) -
 fn oldest_first(readout: &[u8; LONGEST_BLOCK], resolution: Resolution) -> [u16; LENGTH]
     ensures { result ≡ map (told_at resolution readout.now) (range_with_len 0 50) }
 {
-    let mut samples = [0; LENGTH];
-    for place in 0..LENGTH {
-        samples[place] = sample(readout, resolution, place);
-    }
-    samples
+    array::from_fn(|place| sample(readout, resolution, place))
 }
 
 /// The samples of a ring, the oldest first, as its resolution bit has them told. The part has just answered, so it
@@ -84,8 +56,8 @@ pub(crate) fn read_ring<R: Rig>(
     ensures { MatchResult result (λ samples. (samples ≡ ring_told (R.Rig.meaning rig.old).part signal) × (R.Rig.meaning rig.new ≡ ring_read (R.Rig.meaning rig.old) signal)) (λ _. ⊥) }
 {
     let mut readout = [0; LONGEST_BLOCK];
-    let resolution = resolution(registers, signal);
+    let resolution = bits::resolution(registers[register::CBUFRD_HIBYONLY as usize], signal);
     let bytes = readout_bytes(resolution);
-    rig.block(address, base(signal), &mut readout[0..bytes])?;
+    rig.block(address, base_of(signal), &mut readout[0..bytes])?;
     Ok(oldest_first(&readout, resolution))
 }

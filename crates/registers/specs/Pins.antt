@@ -1,7 +1,8 @@
--- Levels, and the address that the straps choose.
-use Rattle.std.specs.Prelude.{ℕ, Bool, true, false}
+-- Levels, the address that the straps choose, and the pins of the payload bay's part.
+use Rattle.std.specs.Prelude.{ℕ, Bool, true, false, List, [], ◌∷◌}
 use Rattle.registers.specs.declared.pins.Level.{Level}
 use Rattle.registers.specs.declared.pins.Level.TheVariants as level
+use Rattle.registers.specs.declared.pins.Pins.{Pins}
 use Rattle.registers.specs.declared.pins.Strap.{Strap}
 use Rattle.registers.specs.declared.pins.Strap.TheVariants.{Low, High, Open}
 
@@ -12,6 +13,11 @@ high level.High = true
 abbrev pub level_of : Bool → Level
 level_of false = level.Low
 level_of true = level.High
+
+-- low, high
+abbrev pub level_text : Level → List ℕ
+level_text level.Low = 108 ∷ 111 ∷ 119 ∷ []
+level_text level.High = 104 ∷ 105 ∷ 103 ∷ 104 ∷ []
 
 -- by A1, then A0
 abbrev pub address_of : Strap → Strap → ℕ
@@ -24,3 +30,7 @@ address_of High Open = 0x34
 address_of Open Low = 0x32
 address_of Open High = 0x31
 address_of Open Open = 0x30
+
+-- HWEN and ON high, POL low, PROT low, IRNG open, at address 0x3A
+abbrev pub bay : Pins
+bay = record { on = level.High; hwen = level.High; pol = level.Low; prot = Low; irng = Open; a1 = Low; a0 = Low }

@@ -1,6 +1,8 @@
 //! What a part logs: trips of the breaker and compares of the samples with the thresholds.
-ghost use Rattle.std.specs.Prelude.{◌≡◌, ◌≤◌};
-ghost use Rattle.registers.specs.Causes.{weight, holds, nothing, no_compare, trip_byte, under_byte, over_byte, current_byte, tripped, alerted};
+ghost use Rattle.std.specs.Prelude.{◌≡◌};
+ghost use Rattle.registers.specs.Causes.{holds, nothing, no_compare, trip_byte, under_byte, over_byte, current_byte, tripped, alerted};
+
+use crate::bits::{CRITICAL, FAST, OVERCURRENT, SLOW, WARNING, bit};
 
 /// A trip of the breaker.
 #[derive(Clone, Copy, PartialEq, Eq)]
@@ -44,24 +46,6 @@ pub struct Logs {
     pub compares: Compares,
 }
 
-const FAST: u8 = 0x01;
-
-const SLOW: u8 = 0x10;
-
-const WARNING: u8 = 0x01;
-
-const CRITICAL: u8 = 0x10;
-
-const OVERCURRENT: u8 = 0x01;
-
-/// The bit where the flag is set, else 0.
-pub fn bit(flag: bool, bit: u8) -> u8
-    ensures value { result ≡ weight flag bit }
-    ensures bound { result ≤ bit }
-{
-    if flag { bit } else { 0 }
-}
-
 impl Compares {
     /// No compare.
     pub fn none() -> Compares
@@ -103,6 +87,7 @@ impl Logs {
     }
 
     /// The byte of the register that logs trips.
+    // A method for each of the four registers: they differ in the flags that they show, which a parameter would only name again.
     pub fn trips(&self) -> u8
         ensures { result ≡ trip_byte self.now }
     {

@@ -1,6 +1,8 @@
 //! The pins that a part is made from: two-level inputs and three-level straps.
-ghost use Rattle.std.specs.Prelude.{◌≡◌};
-ghost use Rattle.registers.specs.Pins.{high, level_of};
+ghost use Rattle.std.specs.Prelude.{◌≡◌, Some};
+ghost use Rattle.registers.specs.Pins.{high, level_of, level_text, bay};
+
+use std::fmt;
 
 /// A two-level pin.
 #[derive(Clone, Copy, PartialEq, Eq)]
@@ -19,12 +21,26 @@ impl Level {
             Level::High => true,
         }
     }
+}
+
+// By hand, since `from_gives` says what it makes, and clauses of other crates name it.
+impl From<bool> for Level {
+    ghost from_gives = { λ flag level. level ≡ level_of flag };
 
     /// High where the flag is set.
-    pub fn of(flag: bool) -> Level
-        ensures { result ≡ level_of flag }
-    {
+    fn from(flag: bool) -> Level {
         if flag { Level::High } else { Level::Low }
+    }
+}
+
+impl fmt::Display for Level {
+    ghost output = { λ level. Some (level_text level) };
+
+    fn fmt<W: fmt::Write>(&self, f: &mut fmt::Formatter<W>) -> fmt::Result {
+        match self {
+            Level::Low => f.write_str("low"),
+            Level::High => f.write_str("high"),
+        }
     }
 }
 
@@ -46,4 +62,21 @@ pub struct Pins {
     pub irng: Strap,
     pub a1: Strap,
     pub a0: Strap,
+}
+
+impl Pins {
+    /// The pins of the payload bay's part: enabled by them, and at address 0x3A.
+    pub fn payload_bay() -> Pins
+        ensures { result ≡ bay }
+    {
+        Pins {
+            on: Level::High,
+            hwen: Level::High,
+            pol: Level::Low,
+            prot: Strap::Low,
+            irng: Strap::Open,
+            a1: Strap::Low,
+            a0: Strap::Low,
+        }
+    }
 }

@@ -1,4 +1,5 @@
 //! The registers by the names that firmware knows them by, each with its number.
+//! Numbers and no enum: on the bus any byte may stand for a register, and 184 of them name neither a register nor a ring.
 
 /// Latest current, high eight bits.
 pub const ADC_CS_MSB: u8 = 0x00;

@@ -11,6 +11,7 @@ struct Row {
     address: u8,
 }
 
+// A search over rows and no `match`, a rule of the project: the order of the rows is the order of the search.
 const STRAPS: [Row; 9] = [
     Row {
         a1: Strap::Low,

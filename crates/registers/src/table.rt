@@ -4,6 +4,7 @@ ghost use Rattle.registers.specs.Rows.{mask_of};
 
 use crate::register::COUNT;
 
+// Two tables and not one of pairs, a rule of the project: each is compared with a list of its own.
 const WRITABLE: [u8; COUNT] = [
     0x00, // 0x00 adc_cs_msb
     0x00, // 0x01 adc_cs_lsb
@@ -154,8 +155,7 @@ pub(crate) const RESET: [u8; COUNT] = [
 pub(crate) fn entry(table: &[u8], register: u8) -> u8
     ensures { result ≡ slice_index table.now register }
 {
-    let index = register as usize;
-    if index < table.len() { table[index] } else { 0 }
+    table.get(register as usize).copied().unwrap_or(0)
 }
 
 /// The bits of a register that a write keeps; none of a register that ignores writes, and none past the last register.

@@ -19,7 +19,7 @@ pub const VOLTAGES: usize = register::COUNT;
 pub const CURRENTS: usize = VOLTAGES + 2 * ring::LENGTH;
 
 /// The bytes are no report.
-#[derive(Clone, Copy, PartialEq, Eq)]
+#[derive(Clone, Copy, PartialEq, Eq, Debug)]
 pub struct WrongSize;
 
 impl WrongSize {
@@ -32,11 +32,9 @@ impl WrongSize {
 }
 
 /// The bytes as a report, which they are where their number is a report's.
+// A call of its own, ahead of the viewer's making, which then can't refuse: a rule of the project.
 pub fn measured(bytes: &[u8]) -> Result<&[u8; REPORT_BYTES], WrongSize>
     ensures { MatchResult result (λ whole. (whole.now ≡ bytes.now) × (length bytes.now ≡ 270)) (λ _. (length bytes.now ≢ 270)) }
 {
-    match <&[u8; REPORT_BYTES]>::try_from(bytes) {
-        Ok(whole) => Ok(whole),
-        Err(_) => Err(WrongSize),
-    }
+    bytes.as_array().ok_or(WrongSize)
 }

@@ -4,35 +4,15 @@ ghost use Rattle.registers.specs.Pins.{level_of};
 ghost use Rattle.report.specs.View.{pair_in, smallest_place, largest_place, latest_in, none_in, smallest_in, largest_in, register_in, setting_in, cause_in, on_in, pol_in, good_in, prot_in, resolution_in, ring_place, sample_in};
 
 use crate::{CURRENTS, REPORT_BYTES, VOLTAGES};
+use registers::bits::{
+    CRITICAL, FAST, ON, OVERCURRENT, POL, POWER_GOOD, PROT, SLOW, WARNING, is_set,
+};
 use registers::causes::{Cause, Compare, Trip};
 use registers::pins::{Level, Strap};
-use registers::{register, table};
+use registers::{bits, register, table};
 use samples::ring;
 use samples::ring::Resolution;
 use samples::signal::Signal;
-
-const FAST: u8 = 0x01;
-
-const SLOW: u8 = 0x10;
-
-const WARNING: u8 = 0x01;
-
-const CRITICAL: u8 = 0x10;
-
-const OVERCURRENT: u8 = 0x01;
-
-const ON: u8 = 0x01;
-
-const POL: u8 = 0x20;
-
-const POWER_GOOD: u8 = 0x01;
-
-/// PROT takes the bit of this weight and the one above it.
-const PROT: u8 = 0x40;
-
-const SHORT_CURRENT: u8 = 0x02;
-
-const SHORT_VOLTAGE: u8 = 0x01;
 
 /// What the extremes of a signal read where they cover no sample.
 const NO_SMALLEST: u16 = 1023;
@@ -40,16 +20,10 @@ const NO_SMALLEST: u16 = 1023;
 const NO_LARGEST: u16 = 0;
 
 /// A report, seen through a borrow of its bytes.
+// No model: its one field is what the clauses speak of.
 #[derive(Clone, Copy)]
 pub struct View<'a> {
     bytes: &'a [u8; REPORT_BYTES],
-}
-
-/// The lowest bit is set: of a byte divided by a bit's weight, that bit.
-fn is_odd(byte: u8) -> bool
-    ensures { result ≡ (byte % 2 == 1) }
-{
-    byte % 2 == 1
 }
 
 /// Where the samples of a signal begin.
@@ -81,30 +55,23 @@ impl<'a> View<'a> {
     fn pair(&self, high: u8, low: u8) -> u16
         ensures { result ≡ slice_index self.now.bytes.now high * 4 + slice_index self.now.bytes.now low % 4 }
     {
-        u16::from(self.byte(high)) * 4 + u16::from(self.byte(low)) % 4
+        bits::ten_bits(self.byte(high), self.byte(low))
     }
 
     /// What a register shows; none past the last one.
     pub fn register(&self, number: u8) -> Option<u8>
         ensures { result ≡ register_in self.now.bytes.now number }
     {
-        if (number as usize) < register::COUNT {
-            Some(self.byte(number))
-        } else {
-            None
-        }
+        ((number as usize) < register::COUNT).then_some(self.byte(number))
     }
 
     /// The byte of a setting; none where the register is no setting.
+    #[tactic(auto, using(crate::proofs::Settings::keeping))]
     pub fn setting(&self, number: u8) -> Option<u8>
         ensures { result ≡ setting_in self.now.bytes.now number }
     {
         // every setting keeps a bit of what is written, and no other register does
-        if table::writable(number) != 0 {
-            Some(self.byte(number))
-        } else {
-            None
-        }
+        (table::writable(number) != 0).then_some(self.byte(number))
     }
 
     /// The signal's latest sample.
@@ -147,6 +114,7 @@ impl<'a> View<'a> {
                 self.pair(register::MAX_MON_MSB, register::MAX_MON_LSB),
             ),
         };
+        // an `if`, since the test is for none
         if smallest == NO_SMALLEST && largest == NO_LARGEST {
             None
         } else {
@@ -158,29 +126,30 @@ impl<'a> View<'a> {
     pub fn logged(&self, cause: Cause) -> bool
         ensures { result ≡ cause_in self.now.bytes.now cause }
     {
-        match cause {
-            Cause::Trip(Trip::Fast) => is_odd(self.byte(register::STATUS0) / FAST),
-            Cause::Trip(Trip::Slow) => is_odd(self.byte(register::STATUS0) / SLOW),
-            Cause::Compare(Compare::Uv1) => is_odd(self.byte(register::FAULT0) / WARNING),
-            Cause::Compare(Compare::Uv2) => is_odd(self.byte(register::FAULT0) / CRITICAL),
-            Cause::Compare(Compare::Ov1) => is_odd(self.byte(register::FAULT1) / WARNING),
-            Cause::Compare(Compare::Ov2) => is_odd(self.byte(register::FAULT1) / CRITICAL),
-            Cause::Compare(Compare::Oi) => is_odd(self.byte(register::FAULT2) / OVERCURRENT),
-        }
+        let (register, weight) = match cause {
+            Cause::Trip(Trip::Fast) => (register::STATUS0, FAST),
+            Cause::Trip(Trip::Slow) => (register::STATUS0, SLOW),
+            Cause::Compare(Compare::Uv1) => (register::FAULT0, WARNING),
+            Cause::Compare(Compare::Uv2) => (register::FAULT0, CRITICAL),
+            Cause::Compare(Compare::Ov1) => (register::FAULT1, WARNING),
+            Cause::Compare(Compare::Ov2) => (register::FAULT1, CRITICAL),
+            Cause::Compare(Compare::Oi) => (register::FAULT2, OVERCURRENT),
+        };
+        is_set(self.byte(register), weight)
     }
 
     /// The level of ON.
     pub fn on(&self) -> Level
         ensures { result ≡ level_of (on_in self.now.bytes.now) }
     {
-        Level::of(is_odd(self.byte(register::STATUS1) / ON))
+        Level::from(is_set(self.byte(register::STATUS1), ON))
     }
 
     /// The level of POL.
     pub fn pol(&self) -> Level
         ensures { result ≡ level_of (pol_in self.now.bytes.now) }
     {
-        Level::of(is_odd(self.byte(register::STATUS3) / POL))
+        Level::from(is_set(self.byte(register::STATUS3), POL))
     }
 
     /// The level of PROT; none where its bits name none.
@@ -199,23 +168,14 @@ impl<'a> View<'a> {
     pub fn power_good(&self) -> bool
         ensures { result ≡ good_in self.now.bytes.now }
     {
-        is_odd(self.byte(register::STATUS3) / POWER_GOOD)
+        is_set(self.byte(register::STATUS3), POWER_GOOD)
     }
 
     /// How fine a block reads the signal's ring.
     pub fn resolution(&self, signal: Signal) -> Resolution
         ensures { result ≡ resolution_in self.now.bytes.now signal }
     {
-        let byte = self.byte(register::CBUFRD_HIBYONLY);
-        let short = match signal {
-            Signal::Current => is_odd(byte / SHORT_CURRENT),
-            Signal::Voltage => is_odd(byte / SHORT_VOLTAGE),
-        };
-        if short {
-            Resolution::Short
-        } else {
-            Resolution::Full
-        }
+        bits::resolution(self.byte(register::CBUFRD_HIBYONLY), signal)
     }
 
     /// A sample of the signal's ring, the oldest at place 0; none past the ring's last place.

@@ -1,20 +1,13 @@
 -- Calls on the bus: put, get and block.
 use Rattle.std.proofs.Common.{◌≡◌, ℕ, ◌-◌, Bool, true, false, cond, ◌&&◌, eqb, leb, sym, refl, ap, ◌∙◌, ⊎_elim, arith}
+use Rattle.std.proofs.Math.Bool.{and_assoc}
 use Rattle.std.proofs.lemmas.Bool.{both_ways, cases_Bool, and_from}
 use Rattle.part.specs.Model.{Model, address}
 use Rattle.part.specs.Shown.{shown}
 use Rattle.rig.specs.declared.Refusal.{Refusal}
 use Rattle.rig.specs.declared.Refusal.TheVariants.{Length, Register, Silence}
 use Rattle.rig.specs.Meaning.{Meaning, Call, tick, pin, trip, outputs, put, get, block, Answer, done, byte, bytes, refused, sized, ring_base, hears, bus_answer, block_of, answer, accepts, reaches, does, next}
-
-abbrev pub on_bus : Call → Bool
-on_bus (tick i v) = false
-on_bus (pin w l) = false
-on_bus (trip t) = false
-on_bus outputs = false
-on_bus (put a r x) = true
-on_bus (get a r) = true
-on_bus (block a base n) = true
+pub use Rattle.rig.specs.Tries.{on_bus}
 
 -- the answer of a call that is accepted, and of one that is not
 abbrev pub good : Model → Call → Answer
@@ -44,19 +37,15 @@ two_tests true true h z g s f e = refl
 two_tests true false h z g s f e = refl
 two_tests false u h z g s f e = refl
 
-and_assoc : (t h z : Bool) → (t && (h && z)) ≡ ((t && h) && z)
-and_assoc true h z = refl
-and_assoc false h z = refl
-
 -- a bus call is accepted exactly where it reaches the part and nothing is owed
 pub accepted_is : (m : Meaning) (c : Call) → on_bus c ≡ true → accepts m c ≡ (reaches m.part c && eqb m.owed 0)
 accepted_is m (tick i v) b = absurd (both_ways false refl b)
 accepted_is m (pin w l) b = absurd (both_ways false refl b)
 accepted_is m (trip t) b = absurd (both_ways false refl b)
 accepted_is m outputs b = absurd (both_ways false refl b)
-accepted_is m (put a r x) b = and_assoc (leb r 0x45) (eqb a (address m.part)) (eqb m.owed 0)
-accepted_is m (get a r) b = and_assoc (leb r 0x45) (eqb a (address m.part)) (eqb m.owed 0)
-accepted_is m (block a base n) b = and_assoc (sized n && ring_base base) (eqb a (address m.part)) (eqb m.owed 0)
+accepted_is m (put a r x) b = sym (and_assoc (leb r 0x45) (eqb a (address m.part)) (eqb m.owed 0))
+accepted_is m (get a r) b = sym (and_assoc (leb r 0x45) (eqb a (address m.part)) (eqb m.owed 0))
+accepted_is m (block a base n) b = sym (and_assoc (sized n && ring_base base) (eqb a (address m.part)) (eqb m.owed 0))
 
 pub answered_is : (m : Meaning) (c : Call) → on_bus c ≡ true → answer m c ≡ cond (reaches m.part c && eqb m.owed 0) (good m.part c) (bad c)
 answered_is m (tick i v) b = absurd (both_ways false refl b)

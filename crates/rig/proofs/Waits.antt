@@ -1,13 +1,15 @@
 -- A call on the bus that is tried again: what the tries come to, for the rig above.
-use Rattle.std.proofs.Common.{◌≡◌, ℕ, zero, suc, ◌+◌, ◌-◌, ◌/◌, ◌<◌, ◌≤◌, true, false, cond, ◌&&◌, eqb, List, length, Ok, Err, Result, sym, refl, ap, ◌∙◌, ⊎_elim, div-one, add-one, arith}
+use Rattle.std.proofs.Common.{◌≡◌, ℕ, zero, suc, ◌+◌, ◌-◌, ◌/◌, ◌<◌, ◌≤◌, true, false, cond, ◌&&◌, eqb, List, Ok, Err, Result, sym, refl, ap, subst, ◌∙◌, ⊎_elim, div-one, add-one, arith}
 use native.Mathlib.Nat.{div-eq_of_lt, div-eq-sub-div}
 use Rattle.std.proofs.lemmas.Bool.{both_ways, cases_Bool, cases_eq, eqb-true, ne_eqb, and_parts}
 use Rattle.rig.specs.declared.Refusal.{Refusal}
 use Rattle.rig.specs.declared.Refusal.TheVariants.{Sample, Length, Register, Silence}
+use Rattle.std.specs.Borrow.{MutBor}
 use Rattle.rig.specs.Refusals.{told, is_silence, silent}
-use Rattle.rig.specs.Meaning.{Meaning, Call, block, Answer, refused, answer, accepts, reaches, does, next, block_of, filled}
+use Rattle.rig.specs.Meaning.{Meaning, Call, tick, pin, trip, outputs, put, get, block, Answer, refused, answer, accepts, reaches, does, next, block_of}
 use Rattle.rig.specs.Patience.{eased, again, Waits}
-use Rattle.rig.proofs.Bus.{on_bus, good, bad, accepted_is, answered_is, silent_is, good_speaks}
+use Rattle.rig.specs.Tries.{on_bus, buffer_after, Made, Makes}
+use Rattle.rig.proofs.Bus.{good, bad, accepted_is, answered_is, silent_is, good_speaks}
 
 -- the rig after i tries of the call that all met silence, from m
 pub record Waited (m : Meaning) (c : Call) (i : ℕ) (now : Meaning) : Type 0 where
@@ -166,9 +168,25 @@ waits m c r = waits_then m c r
 pub eased_none : (m : Meaning) (p : ℕ) → p ≡ 0 → eased m p ≡ m
 eased_none m p e = ap (λ q. record { part = m.part; owed = m.owed / (q + 1) }) e ∙ ap (λ n. record { part = m.part; owed = n }) (div-one m.owed)
 
--- a block that both take, or neither, leaves the same in the buffer
-pub filled_alike : (n q : Meaning) (a base : ℕ) (out : List ℕ) → n.part ≡ q.part → accepts n (block a base (length out)) ≡ accepts q (block a base (length out)) → filled n a base out ≡ filled q a base out
-filled_alike n q a base out e t = ap (λ p. cond (accepts n (block a base (length out))) (block_of p base (length out)) out) e ∙ ap (λ x. cond x (block_of q.part base (length out)) out) t
+-- a call that both take, or neither, leaves the same in the buffer
+buffer_alike : (n q : Meaning) (c : Call) (before : List ℕ) → n.part ≡ q.part → accepts n c ≡ accepts q c → buffer_after n c before ≡ buffer_after q c before
+buffer_alike n q (tick i v) before e t = refl
+buffer_alike n q (pin w l) before e t = refl
+buffer_alike n q (trip x) before e t = refl
+buffer_alike n q outputs before e t = refl
+buffer_alike n q (put a r x) before e t = refl
+buffer_alike n q (get a r) before e t = refl
+buffer_alike n q (block a base k) before e t = ap (λ p. cond (accepts n (block a base k)) (block_of p base k) before) e ∙ ap (λ x. cond x (block_of q.part base k) before) t
+
+-- and one that is refused leaves the buffer
+buffer_kept : (m : Meaning) (c : Call) (before : List ℕ) → accepts m c ≡ false → buffer_after m c before ≡ before
+buffer_kept m (tick i v) before t = refl
+buffer_kept m (pin w l) before t = refl
+buffer_kept m (trip x) before t = refl
+buffer_kept m outputs before t = refl
+buffer_kept m (put a r x) before t = refl
+buffer_kept m (get a r) before t = refl
+buffer_kept m (block a base k) before t = ap (λ x. cond x (block_of m.part base k) before) t
 
 -- a result is silence exactly where its answer is
 silence_told : (e : Refusal) → is_silence e ≡ true → refused e ≡ refused Silence
@@ -180,10 +198,47 @@ silence_told Silence t = refl
 silence_only : (e : Refusal) → is_silence e ≡ false → refused e ≡ refused Silence → ⊥
 silence_only e t s = let same : e ≡ Silence = cc in both_ways (is_silence e) t (ap is_silence same)
 
-pub met : {X : Type 0} (good_answer : X → Answer) (r : Result X Refusal) → silent r ≡ true → told good_answer r ≡ refused Silence
+met : {X : Type 0} (good_answer : X → Answer) (r : Result X Refusal) → silent r ≡ true → told good_answer r ≡ refused Silence
 met good_answer (Ok x) t = absurd (both_ways false refl t)
 met good_answer (Err e) t = silence_told e t
 
-pub unmet : {X : Type 0} (good_answer : X → Answer) (r : Result X Refusal) → ((x : X) → good_answer x ≡ refused Silence → ⊥) → silent r ≡ false → told good_answer r ≡ refused Silence → ⊥
+unmet : {X : Type 0} (good_answer : X → Answer) (r : Result X Refusal) → ((x : X) → good_answer x ≡ refused Silence → ⊥) → silent r ≡ false → told good_answer r ≡ refused Silence → ⊥
 unmet good_answer (Ok x) speaks t s = speaks x s
 unmet good_answer (Err e) speaks t s = silence_only e t s
+
+-- the rig and the buffer after i tries that all met silence
+pub record Kept (m : Meaning) (c : Call) (i : ℕ) (before : List ℕ) (now : Meaning) (out : List ℕ) : Type 0 where
+  pub buffer : out ≡ before
+  pub waited : Waited m c i now
+
+-- one more run of a closure that makes the call
+module _ {R X : Type 0} (meaning : R → Meaning) (runs : MutBor R → MutBor (List ℕ) → Result X Refusal → MutBor R → MutBor (List ℕ) → Type 0)
+    (m : Meaning) (before : List ℕ) (c : Call) (good_answer : X → List ℕ → Answer) (does_it : Makes meaning runs before c good_answer)
+    (i : ℕ) (r s : MutBor R) (b d : MutBor (List ℕ)) (o : Result X Refusal)
+    (k : Kept m c i before (meaning r.now) b.now) (ran : runs r b o s d) where
+  made : Made c good_answer (meaning r.now) b.now o (meaning s.now) d.now
+  made = does_it.makes r s b d o k.buffer ran
+
+  -- it met silence
+  pub tried : silent o ≡ true → Kept m c (i + 1) before (meaning s.now) d.now
+  tried t =
+      let mute : answer (meaning r.now) c ≡ refused Silence = sym made.answers ∙ met (λ x. good_answer x d.now) o t in
+      record {
+        buffer = made.buffer ∙ buffer_kept (meaning r.now) c b.now ((one (meaning r.now) c does_it.bus).takes ∙ unaccepted m c does_it.bus (meaning r.now) mute) ∙ k.buffer;
+        waited = subst (Waited m c (i + 1)) (sym made.leaves) (waited_more m c does_it.bus i (meaning r.now) k.waited mute);
+      }
+
+  -- it is the last, and the rig above sees it as a call of its own
+  last : (p : ℕ) → Seen m c does_it.bus (meaning r.now) p → Made c good_answer (eased m p) before o (eased (meaning s.now) p) d.now
+  last p e = record {
+    answers = made.answers ∙ e.answered;
+    leaves = ap (λ n. eased n p) made.leaves ∙ e.after;
+    buffer = made.buffer ∙ buffer_alike (meaning r.now) (eased m p) c b.now k.waited.part e.taken ∙ ap (buffer_after (eased m p) c) k.buffer;
+  }
+
+  pub tried_done : (p : ℕ) → i ≤ p → silent o ≡ false → Made c good_answer (eased m p) before o (eased (meaning s.now) p) d.now
+  tried_done p h t =
+      last p (waited_done m c does_it.bus i p (meaning r.now) h k.waited (λ z. unmet (λ x. good_answer x d.now) o (λ x. does_it.speaks x d.now) t (made.answers ∙ z)))
+
+  pub tried_all : (p : ℕ) → i ≡ p → Made c good_answer (eased m p) before o (eased (meaning s.now) p) d.now
+  tried_all p e = last p (waited_all m c does_it.bus p (meaning r.now) (rw e at k.waited))

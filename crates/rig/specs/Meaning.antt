@@ -1,5 +1,5 @@
 -- What a rig means: its part by the rules, and how many silences it owes; and what each call answers and leaves.
-use Rattle.std.specs.Prelude.{ℕ, ◌-◌, Bool, true, false, cond, ◌&&◌, ◌||◌, List, length, ◌==◌, nat_le, nat_lt}
+use Rattle.std.specs.Prelude.{◌≡◌, ℕ, ◌-◌, Bool, true, false, cond, ◌&&◌, ◌||◌, List, length, ◌==◌, nat_le, nat_lt}
 use Rattle.samples.specs.History.{readout}
 use Rattle.samples.specs.declared.signal.Signal.{Signal}
 use Rattle.samples.specs.declared.signal.Signal.TheVariants.{Current, Voltage}
@@ -48,6 +48,10 @@ ring_base n = n == 0x46 || n == 0x47
 
 abbrev pub ring_at : ℕ → Signal
 ring_at base = cond (base == 0x46) Voltage Current
+
+abbrev pub base_of : Signal → ℕ
+base_of Voltage = 0x46
+base_of Current = 0x47
 
 -- the part answers at this address: it is its own, and no silence is owed
 abbrev pub hears : Meaning → ℕ → Bool
@@ -117,3 +121,9 @@ next m c =
 -- the caller's buffer after a block
 abbrev pub filled : Meaning → ℕ → ℕ → List ℕ → List ℕ
 filled m a base before = cond (accepts m (block a base (length before))) (block_of m.part base (length before)) before
+
+-- a block that is refused ahead of the bus: whatever the rig, that is its answer, and nothing changes
+pub record BlockRefused (m : Meaning) (a base n : ℕ) (e : Refusal) : Type 0 where
+  pub answers : answer m (block a base n) ≡ refused e
+  pub after : next m (block a base n) ≡ m
+  pub not_accepted : accepts m (block a base n) ≡ false

@@ -5,12 +5,11 @@ ghost use Rattle.rig.specs.Direct.{direct_meaning};
 ghost use Rattle.rig.specs.Meaning.{done, bus_answer};
 ghost use Rattle.rig.specs.Refusals.{told};
 
-use crate::{LONGEST_BLOCK, Refusal, Rig, ring_at, samples_of};
+use crate::{Refusal, Rig, check_block, check_register, samples_of};
 use part::events::Pin;
 use part::{Outputs, Part};
 use registers::causes::Trip;
 use registers::pins::{Level, Pins};
-use registers::register;
 
 /// A part, and how many silences it owes: while it boots it acknowledges nothing.
 #[derive(Drop)]
@@ -47,6 +46,7 @@ impl Direct {
     }
 }
 
+// Four calls read as the wire rig's do: each hands its call to what it holds, and they hold different things.
 impl Rig for Direct {
     ghost meaning = { direct_meaning };
 
@@ -69,29 +69,20 @@ impl Rig for Direct {
     }
 
     fn put(&mut self, address: u8, register: u8, byte: u8) -> Result<(), Refusal> {
-        if register as usize >= register::COUNT {
-            return Err(Refusal::Register);
-        }
+        check_register(register)?;
         self.acknowledge(address)?;
         self.part.write(register, byte);
         Ok(())
     }
 
     fn get(&mut self, address: u8, register: u8) -> Result<u8, Refusal> {
-        let Some(byte) = self.part.register(register) else {
-            return Err(Refusal::Register);
-        };
+        let byte = self.part.register(register).ok_or(Refusal::Register)?;
         self.acknowledge(address)?;
         Ok(byte)
     }
 
     fn block(&mut self, address: u8, base: u8, out: &mut [u8]) -> Result<(), Refusal> {
-        if out.is_empty() || out.len() > LONGEST_BLOCK {
-            return Err(Refusal::Length);
-        }
-        let Some(signal) = ring_at(base) else {
-            return Err(Refusal::Register);
-        };
+        let signal = check_block(base, out.len())?;
         self.acknowledge(address)?;
         self.part.block(signal, out);
         Ok(())

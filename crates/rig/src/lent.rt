@@ -1,4 +1,5 @@
 //! A rig that is lent is a rig, so that layers and readers can borrow one.
+//! Seven calls written out: no impl is made by a macro of our own, a rule of the project.
 use crate::{Refusal, Rig};
 use part::Outputs;
 use part::events::Pin;

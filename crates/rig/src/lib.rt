@@ -1,9 +1,10 @@
 //! Rigs: a part with a way to reach it. Every rig answers the same seven calls by the same meaning.
 #![tactic(auto)]
 
-ghost use Rattle.std.specs.Prelude.{◌≡◌, ◌&&◌, length, is_ok, if◌then◌else◌, Some, None, MatchResult, nat_le};
-ghost use Rattle.rig.specs.Meaning.{Meaning, Answer, tick as ticks, pin as pins, trip as trips, outputs as output_levels, put as puts, get as gets, block as blocks, done, byte, bytes, levels, next, answer, tick_answer, refused, filled, ring_base, ring_at};
+ghost use Rattle.std.specs.Prelude.{◌≡◌, ℕ, ◌<◌, ◌≤◌, true, ◌&&◌, length, is_ok, if◌then◌else◌, Some, None, MatchResult, nat_le};
+ghost use Rattle.rig.specs.Meaning.{Meaning, Answer, tick as ticks, pin as pins, trip as trips, outputs as output_levels, put as puts, get as gets, block as blocks, done, byte, bytes, levels, next, answer, tick_answer, refused, filled, ring_base, ring_at, base_of, sized, BlockRefused};
 ghost use Rattle.rig.specs.Refusals.{told, number_of};
+ghost use Rattle.rig.specs.declared.Refusal.TheVariants.{Register};
 
 mod direct;
 mod lent;
@@ -34,6 +35,7 @@ pub enum Refusal {
 
 impl Refusal {
     /// The number by which a refusal is known.
+    // No `From<Refusal> for u8`, here and at each fault above: the number is a refusal's name, and not its value.
     pub fn number(self) -> u8
         ensures { result ≡ number_of self }
     {
@@ -57,23 +59,50 @@ pub fn ring_at(base: u8) -> Option<Signal>
     }
 }
 
+/// The base at which a block reads the ring of a signal.
+pub fn base_of(signal: Signal) -> u8
+    ensures { result ≡ base_of signal }
+{
+    match signal {
+        Signal::Current => register::CBUF_BA_I,
+        Signal::Voltage => register::CBUF_BA_V,
+    }
+}
+
 /// The samples of a tick, or its refusal: the current is tested first.
 pub fn samples_of(current: u16, voltage: u16) -> Result<(Sample, Sample), Refusal>
     ensures samples { MatchResult result (λ p. (p.0.value ≡ current) × (p.1.value ≡ voltage)) (λ e. refused e ≡ tick_answer current voltage) }
     ensures taken { is_ok result ≡ (nat_le current 1023 && nat_le voltage 1023) }
 {
-    let Some(i) = Sample::new(current) else {
-        return Err(Refusal::Sample(Signal::Current));
-    };
-    let Some(v) = Sample::new(voltage) else {
-        return Err(Refusal::Sample(Signal::Voltage));
-    };
+    let i = Sample::new(current).ok_or(Refusal::Sample(Signal::Current))?;
+    let v = Sample::new(voltage).ok_or(Refusal::Sample(Signal::Voltage))?;
     Ok((i, v))
 }
 
 /// The longest block.
 pub const LONGEST_BLOCK: usize = 100;
 
+/// The register of a put or a get is one of the part's.
+pub fn check_register(number: u8) -> Result<(), Refusal>
+    ensures { MatchResult result (λ _. number < 70) (λ e. (e ≡ Register) × (70 ≤ number)) }
+{
+    if number as usize >= register::COUNT {
+        return Err(Refusal::Register);
+    }
+    Ok(())
+}
+
+/// The ring that a block of this length reads at a base; the length is tested first.
+pub fn check_block(base: u8, length: usize) -> Result<Signal, Refusal>
+    ensures { MatchResult result (λ s. (sized length ≡ true) × (ring_base base ≡ true) × (s ≡ ring_at base)) (λ e. (m : Meaning) (a : ℕ) → BlockRefused m a base length e) }
+{
+    if length == 0 || length > LONGEST_BLOCK {
+        return Err(Refusal::Length);
+    }
+    ring_at(base).ok_or(Refusal::Register)
+}
+
+// The parameters of the calls stand as the rules name them: a struct of them would be made for one call.
 /// A part and a way to reach it. What a call answers and what it leaves is the meaning's, for every rig alike.
 pub trait Rig {
     ghost meaning: { Self → Meaning };

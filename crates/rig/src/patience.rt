@@ -1,7 +1,8 @@
 //! Patience: a layer over any rig that tries again after a silence.
-ghost use Rattle.std.specs.Prelude.{◌≡◌, ◌+◌, ◌/◌};
+ghost use Rattle.std.specs.Prelude.{◌≡◌, ℕ, ◌+◌, ◌/◌, List};
 ghost use Rattle.rig.specs.Patience.{eased, Waits};
-ghost use Rattle.rig.specs.Refusals.{silent};
+ghost use Rattle.rig.specs.Meaning.{Call, Answer};
+ghost use Rattle.rig.specs.Tries.{Made, Makes};
 
 use crate::{Refusal, Rig};
 use part::Outputs;
@@ -16,16 +17,6 @@ pub struct Patience<R> {
     patience: u8,
 }
 
-/// The call met silence, and may be tried again.
-fn met_silence<T>(answer: &Result<T, Refusal>) -> bool
-    ensures { result ≡ silent answer.now }
-{
-    match answer {
-        Err(Refusal::Silence) => true,
-        _ => false,
-    }
-}
-
 impl<R: Rig> Patience<R> {
     /// Patience over a rig; patience 0 is as if there were none.
     pub fn new(below: R, patience: u8) -> Patience<R>
@@ -34,6 +25,25 @@ impl<R: Rig> Patience<R> {
         ensures waits { Waits (eased (R.Rig.meaning result.below) result.patience) ((R.Rig.meaning below).owed / (patience + 1)) }
     {
         Patience { below, patience }
+    }
+
+    /// Makes a call on the bus of the rig below, and makes it again after a silence, up to `patience` times. A call
+    /// with a buffer finds it beside the rig, so that the contract can say what the last try left there.
+    fn again<T: Drop, F: Fn(&mut R, &mut [u8]) -> Result<T, Refusal>>(
+        &mut self,
+        out: &mut [u8],
+        call: F,
+    ) -> Result<T, Refusal>
+        requires { F.IsAlwaysCallable call }
+        ensures { (c : Call) (good : T → List ℕ → Answer) → Makes R.Rig.meaning (F.post call) out.old c good → Made c good (eased (R.Rig.meaning self.old.below) self.old.patience) out.old result (eased (R.Rig.meaning self.new.below) self.new.patience) out.new }
+    {
+        for _ in 0..self.patience {
+            let answer = call(&mut self.below, out);
+            if !matches!(answer, Err(Refusal::Silence)) {
+                return answer;
+            }
+        }
+        call(&mut self.below, out)
     }
 }
 
@@ -57,32 +67,14 @@ impl<R: Rig> Rig for Patience<R> {
     }
 
     fn put(&mut self, address: u8, register: u8, byte: u8) -> Result<(), Refusal> {
-        for _ in 0..self.patience {
-            let answer = self.below.put(address, register, byte);
-            if !met_silence(&answer) {
-                return answer;
-            }
-        }
-        self.below.put(address, register, byte)
+        self.again(&mut [], |rig, _| rig.put(address, register, byte))
     }
 
     fn get(&mut self, address: u8, register: u8) -> Result<u8, Refusal> {
-        for _ in 0..self.patience {
-            let answer = self.below.get(address, register);
-            if !met_silence(&answer) {
-                return answer;
-            }
-        }
-        self.below.get(address, register)
+        self.again(&mut [], |rig, _| rig.get(address, register))
     }
 
     fn block(&mut self, address: u8, base: u8, out: &mut [u8]) -> Result<(), Refusal> {
-        for _ in 0..self.patience {
-            let answer = self.below.block(address, base, out);
-            if !met_silence(&answer) {
-                return answer;
-            }
-        }
-        self.below.block(address, base, out)
+        self.again(out, |rig, out| rig.block(address, base, out))
     }
 }

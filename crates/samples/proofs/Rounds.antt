@@ -1,7 +1,7 @@
 -- Places of a ring, and a list read from one of its places on.
-use Rattle.std.proofs.Common.{◌≡◌, ℕ, ◌+◌, ◌-◌, ◌%◌, ◌<◌, ◌≤◌, ltb, ◌≢◌, List, map, length, get_or, take, drop, set, sym, refl, ap, ◌∙◌, ⊎_elim, mod-lt, mod-eq_of_lt, arith, lit<, below_more}
+use Rattle.std.proofs.Common.{◌≡◌, ℕ, ◌+◌, ◌-◌, ◌%◌, ◌<◌, ◌≤◌, ltb, List, map, length, get_or, take, drop, sym, refl, ap, ◌∙◌, ⊎_elim, mod-lt, mod-eq_of_lt, arith, lit<}
 use native.Mathlib.Nat.{add-mod, mod-eq-sub-mod}
-use Rattle.std.proofs.lemmas.List.{length-map, length-drop, length-take, length-append, get_or-map, get_or_append_left, get_or-append_right, get_or-drop, get_or-take, get_or-set_same, get_or-set_other, map-set, ext_get_or}
+use Rattle.std.proofs.lemmas.List.{length-map, length-drop, length-take, length-append, get_or-map, get_or_append_left, get_or-append_right, get_or-drop, get_or-take}
 use Rattle.std.proofs.lemmas.Bool.{cases_lt, lt-ltb, le-ltb, cond-true, cond-false}
 use Rattle.samples.specs.Places.{following}
 use Rattle.samples.specs.History.{turned}
@@ -60,17 +60,3 @@ getD_readout f xs o first k i d n ho is at =
     let inside : (1 + k % 50) % 50 < 50 = omega arith in
     let place : i ≡ (o + (1 + k % 50) % 50) % 50 = omega arith in
     getD_map_turned f xs o ((1 + k % 50) % 50) i d n ho inside place ∙ sym (getD_turned (map f (turned xs o)) 1 (k % 50) ((1 + k % 50) % 50) 0 len (lit< tt) some refl)
-
--- a list filled place by place, up to what each element stands for: one place more, and all of them
-pub filled_more : {X : Type 0} (f : X → ℕ) (xs : List X) (ys : List ℕ) (k : ℕ) (x : X) → k < length xs → f x ≡ get_or ys k 0
-    → ((j : ℕ) → j < k → get_or (map f xs) j 0 ≡ get_or ys j 0) → (j : ℕ) → j < k + 1 → get_or (map f (set xs k x)) j 0 ≡ get_or ys j 0
-filled_more f xs ys k x h here below =
-    let inside : k < length (map f xs) = omega (arith, length-map xs f) in
-    let at : map f (set xs k x) ≡ set (map f xs) k (f x) = map-set f xs k x in
-    rw at
-    (below_more (λ j. get_or (set (map f xs) k (f x)) j 0 ≡ get_or ys j 0) k
-    (λ j l. let ne : j ≢ k = omega arith in rw get_or-set_other (below j l))
-    (get_or-set_same (map f xs) k (f x) 0 inside ∙ here))
-
-pub filled_all : {X : Type 0} (f : X → ℕ) (xs : List X) (ys : List ℕ) (k : ℕ) → length xs ≡ length ys → length xs ≤ k → ((j : ℕ) → j < k → get_or (map f xs) j 0 ≡ get_or ys j 0) → map f xs ≡ ys
-filled_all f xs ys k same far below = ext_get_or 0 (map f xs) ys (length-map xs f ∙ same) (λ j h. below j (omega (arith, length-map xs f)))

@@ -9,6 +9,7 @@ use crate::sample::Sample;
 pub const LENGTH: usize = 50;
 
 /// The last fifty samples, each below 1024 and the place of the oldest below fifty by its type.
+// No model: a ring is copied, and its content does not give back which place is the oldest's.
 #[derive(Clone, Copy)]
 pub struct Ring {
     samples: [Sample; LENGTH],

@@ -2,7 +2,7 @@
 ghost use Rattle.std.specs.Prelude.{◌≡◌, ◌/◌, ◌%◌, ◌<◌, ◌≤◌, MatchOption};
 
 /// A ten-bit sample: below 1024 by its type.
-#[derive(Clone, Copy)]
+#[derive(Clone, Copy, PartialEq, Eq, PartialOrd, Ord)]
 pub struct Sample {
     value: u16,
     ghost ten_bits: { value < 1024 },
@@ -10,6 +10,7 @@ pub struct Sample {
 
 impl Sample {
     /// The sample of this value; none above full scale.
+    // No `TryFrom`: there is one way to fail, which `None` says. The test comes first, since no sample is made without it.
     pub fn new(value: u16) -> Option<Sample>
         ensures { MatchOption result (1024 ≤ value) (λ s. (s.value ≡ value) × (value < 1024)) }
     {
@@ -21,6 +22,7 @@ impl Sample {
     }
 
     /// The least sample.
+    // Two functions and no constants: a constant carries no clause.
     pub fn zero() -> Sample
         ensures { result.value ≡ 0 }
     {

@@ -70,6 +70,3 @@ first_wrong {L} {xs} {d} {c} s e =
 
 pub short_line : {L : List ℕ → Type 0} {xs : List ℕ} {c : ℕ} → length xs ≤ 16 → FirstWrong L xs c → WrongOf L xs c
 short_line short w = ((λ long. absurd (omega arith)), (λ _. w))
-
-pub long_line : {L : List ℕ → Type 0} {xs : List ℕ} → 16 < length xs → WrongOf L xs 17
-long_line long = ((λ _. refl), (λ short. absurd (omega arith)))

@@ -1,14 +1,12 @@
 -- From the bytes after the letter to the whole line.
-use Rattle.std.proofs.Common.{◌≡◌, ℕ, zero, suc, ◌<◌, ◌≤◌, List, [], ◌∷◌, ◌++◌, length, get_or, take, drop, Some, None, Result, sym, refl, ap, ◌∙◌, subst, arith, drop-cons, MatchResult}
+use Rattle.std.proofs.Common.{◌≡◌, ℕ, zero, suc, ◌≤◌, List, [], ◌∷◌, ◌++◌, length, get_or, take, drop, IsErrAnd, Some, None, Result, sym, refl, ap, ◌∙◌, subst, arith, MatchResult}
 use Rattle.std.proofs.lemmas.Bool.{both_ways, eqb-true}
 use Rattle.script.specs.declared.class.Class.TheVariants.{Space, Digit}
 use Rattle.script.specs.Grammar.{admits, Part, one, number, Matches, rule, Right, FirstWrong, Wrong}
 use Rattle.script.specs.Steps.{wrongAt}
-use Rattle.std.proofs.lemmas.Result.{MatchResult-weaker}
 use Rattle.std.proofs.lemmas.List.{drop_all}
-use Rattle.script.specs.declared.line.Line.{Line}
-use Rattle.script.specs.Said.{Said}
 use Rattle.script.proofs.Fronts.{halts_cons, halts_same, first_wrong, short_line}
+use Rattle.script.proofs.Steps.{handed_on}
 use Rattle.script.proofs.Columns.{NoDigitNext, Decided, one_starts, column_found}
 
 no_digit_at_end : NoDigitNext []
@@ -60,23 +58,10 @@ wrong_rest b ps e decided xs c w =
     (halts_cons b (halts_same (λ y m. record { letter = b; parts = ps; rest = y; whole = refl; ruled = e; matches = m }) (λ y _ r. after_letter b ps y e r) g.2))
     (omega (arith, g.1))
 
--- the same where the letter and the column are known by equations
-pub wrong_from : {b : ℕ} (at : ℕ) → b ≡ at → (ps : List Part) → rule at ≡ Some ps → Decided ps → {k : ℕ} {xs : List ℕ} {c : ℕ} → k ≡ 2 → wrongAt ps k xs ≡ Some c → FirstWrong Right (b ∷ xs) c
-wrong_from {b} at is ps e decided {k} {xs} {c} second w = wrong_rest b ps (ap rule is ∙ e) decided xs c (ap (λ m. wrongAt ps m xs) (sym second) ∙ w)
-
-pub letter_says : {b : ℕ} (at : ℕ) → b ≡ at → (ps : List Part) → rule at ≡ Some ps → Decided ps → {k : ℕ} (xs : List ℕ) → k ≡ 2 → (r : Result Line ℕ) → MatchResult r (λ l. Said l (at ∷ xs)) (λ c. wrongAt ps k xs ≡ Some c) → MatchResult r (λ l. Said l (b ∷ xs)) (λ c. FirstWrong Right (b ∷ xs) c)
-letter_says {b} at is ps e decided {k} xs second r h =
-    MatchResult-weaker r h (λ l said. subst (λ m. Said l (m ∷ xs)) (sym is) said) (λ c w. wrong_from at is ps e decided second w)
-
--- nothing was wanted after the letter, and nothing stands there
-pub alone : {b : ℕ} (at : ℕ) → b ≡ at → (xs : List ℕ) → length xs ≡ 0 → b ∷ xs ≡ at ∷ []
-alone at is xs none = λ i. is i ∷ drop_all 0 xs (omega arith) i
-
--- the letter and what follows it make the line
-pub lined : (line : List ℕ) (b : ℕ) (xs : List ℕ) → 0 < length line → b ≡ get_or line 0 0 → xs ≡ drop 1 line → length line ≤ 16 → (r : Result Line ℕ) → MatchResult r (λ l. Said l (b ∷ xs)) (λ c. FirstWrong Right (b ∷ xs) c) → MatchResult r (λ l. Said l line) (λ c. Wrong line c)
-lined line b xs some first rest short r h =
-    let whole : b ∷ xs ≡ line = (λ i. first i ∷ rest i) ∙ sym (drop-cons line 0 0 some) in
-    MatchResult-weaker r h (λ l said. subst (Said l) whole said) (λ c w. short_line short (subst (λ l. FirstWrong Right l c) whole w))
+-- the same where the letter, the column and the bytes are known by equations, and a `?` hands the column on
+pub letter_wrong : {T : Type 0} (P : T → Type 0) {b : ℕ} (at : ℕ) → b ≡ at → (ps : List Part) → rule at ≡ Some ps → Decided ps → {k : ℕ} {xs ys : List ℕ} {e : ℕ} (r : Result T ℕ) → k ≡ 2 → xs ≡ ys → wrongAt ps k xs ≡ Some e → IsErrAnd r (λ y. y ≡ e) → MatchResult r P (λ c. FirstWrong Right (b ∷ ys) c)
+letter_wrong P {b} at is ps ruled decided {e = e} r second same w by =
+    handed_on P _ e r by (wrong_rest b ps (ap rule is ∙ ruled) decided _ e ((λ i. wrongAt ps (sym second i) (sym same i)) ∙ w))
 
 pub empty_wrong : (line : List ℕ) → length line ≡ 0 → Wrong line 1
 empty_wrong line none = short_line (omega arith) (subst (λ l. FirstWrong Right l 1) (sym (drop_all 0 line (omega arith))) wrong_empty)

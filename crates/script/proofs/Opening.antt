@@ -1,13 +1,13 @@
 -- The first line of a script: where it goes wrong.
-use Rattle.std.proofs.Common.{◌≡◌, ℕ, zero, suc, ◌+◌, ◌-◌, ◌*◌, ◌<◌, ◌≤◌, true, false, cond, ◌&&◌, eqb, ltb, leb, ◌⊎◌, List, [], ◌∷◌, ◌++◌, length, get_or, take, drop, Some, None, Option, sym, refl, ap, ◌∙◌, subst, inl, inr, ⊎_elim, append-nil, add-one, arith, length-append, length-drop, take-append-drop, length-take-le}
+use Rattle.std.proofs.Common.{◌≡◌, ◌≢◌, ℕ, zero, suc, ◌+◌, ◌-◌, ◌*◌, ◌<◌, ◌≤◌, true, false, cond, ◌&&◌, eqb, leb, ◌⊎◌, List, [], ◌∷◌, ◌++◌, length, get_or, take, drop, Some, None, Option, sym, refl, ap, ◌∙◌, subst, inl, inr, ⊎_elim, append-nil, add-one, arith, length-append, take-append-drop, length-take-le}
 use Rattle.std.proofs.lemmas.Int.Digits.{digits_value_more}
-use Rattle.std.proofs.lemmas.List.{drop_all, take_all, get_or_past}
-use Rattle.std.proofs.lemmas.Bool.{both_ways, cases_Bool, and_parts, and_cases, and_from, cond-true, cond-false, ltb-true, ltb-false, leb-true, leb-false, eqb-true, ne_eqb}
+use Rattle.std.proofs.lemmas.List.{take_all}
+use Rattle.std.proofs.lemmas.Bool.{both_ways, cases_Bool, and_parts, and_from, cond-true, cond-false, leb-true, leb-false, ne_eqb}
 use Rattle.std.specs.Str.Parse.{digits_value, digits_value_after}
 use Rattle.std.specs.Char.{digit_value}
 use Rattle.script.specs.declared.class.Class.TheVariants.{Digit}
-use Rattle.script.specs.Grammar.{admits, number, Digits, Spells, FirstRight, FirstWrong, FirstLineWrong}
-use Rattle.script.proofs.Fronts.{Halts, halts_cons, halts_same, halts_first, first_wrong, short_line}
+use Rattle.script.specs.Grammar.{admits, number, Digits, Spells, FirstRight, FirstWrong}
+use Rattle.script.proofs.Fronts.{Halts, halts_cons, halts_same, halts_first, first_wrong}
 use Rattle.script.proofs.Values.{digit_is}
 
 -- a text that says a hold-off
@@ -101,46 +101,28 @@ halts_after t i s = halts_cons 66 (halts_cons 32 (halts_same lined (λ y _ r. te
 sample : Says (48 ∷ [])
 sample = ((omega arith, omega arith, (refl, tt)), omega arith)
 
--- a byte stands at a place
-abbrev pub Stands : List ℕ → ℕ → ℕ → Type 0
-Stands line at b = (at < length line) × (get_or line at 0 ≡ b)
+pub wrong_letter : (line : List ℕ) → get_or line 0 0 ≢ 66 → FirstWrong FirstRight line 1
+wrong_letter line other =
+    first_wrong (halts_first (λ b. eqb b 66) (66 ∷ 32 ∷ 48 ∷ []) (lined (48 ∷ []) sample) (λ y r. ap (λ l. eqb (get_or l 0 0) 66) r.whole) line (ne_eqb _ 66 other)) refl
 
-whole : (line : List ℕ) → Stands line 0 66 → Stands line 1 32 → line ≡ 66 ∷ 32 ∷ drop 2 line
-whole [] letter space = absurd (omega (arith, letter.0))
-whole (x ∷ []) letter space = absurd (omega (arith, space.0))
-whole (x ∷ y ∷ t) letter space = λ i. letter.1 i ∷ space.1 i ∷ t
+pub wrong_space : (line : List ℕ) → get_or line 0 0 ≡ 66 → get_or line 1 0 ≢ 32 → FirstWrong FirstRight line 2
+wrong_space [] letter other = absurd (omega (arith, letter))
+wrong_space (x ∷ t) letter other =
+    subst (λ b. FirstWrong FirstRight (b ∷ t) 2) (sym letter)
+    (first_wrong (halts_cons 66 (halts_first (λ b. eqb b 32) (32 ∷ 48 ∷ []) (lined (48 ∷ []) sample) (λ y r. ap (λ l. eqb (get_or l 1 0) 32) r.whole) t (ne_eqb _ 32 other))) refl)
 
-pub wrong_letter : (line : List ℕ) → length line ≤ 16 → eqb (get_or line 0 0) 66 ≡ false → FirstLineWrong line 1
-wrong_letter line short none =
-    short_line short (first_wrong (halts_first (λ b. eqb b 66) (66 ∷ 32 ∷ 48 ∷ []) (lined (48 ∷ []) sample) (λ y r. ap (λ l. eqb (get_or l 0 0) 66) r.whole) line none) refl)
+pub wrong_short : (t : List ℕ) → length t ≡ 0 → FirstWrong FirstRight (66 ∷ 32 ∷ t) 3
+wrong_short [] none = first_wrong (halts_after [] 0 halts_empty) refl
+wrong_short (b ∷ t) none = absurd (omega arith)
 
-pub wrong_space : (line : List ℕ) → length line ≤ 16 → Stands line 0 66 → eqb (get_or line 1 0) 32 ≡ false → FirstLineWrong line 2
-wrong_space [] short letter none = absurd (omega (arith, letter.0))
-wrong_space (x ∷ t) short letter none =
-    subst (λ b. FirstLineWrong (b ∷ t) 2) (sym letter.1)
-    (short_line (omega arith) (first_wrong (halts_cons 66 (halts_first (λ b. eqb b 32) (32 ∷ 48 ∷ []) (lined (48 ∷ []) sample) (λ y r. ap (λ l. eqb (get_or l 1 0) 32) r.whole) t none)) refl))
+pub wrong_digit : (t : List ℕ) (i n k : ℕ) → Begun t i n → i < length t → Blocked t i → k ≡ i + 3 → FirstWrong FirstRight (66 ∷ 32 ∷ t) k
+wrong_digit t i n k b h why column = first_wrong (halts_after t i (halts_text t i n b h why)) (omega arith)
 
-pub wrong_short : (line : List ℕ) → length line ≡ 2 → Stands line 0 66 → Stands line 1 32 → FirstLineWrong line 3
-wrong_short line two letter space =
-    let is : line ≡ 66 ∷ 32 ∷ [] = whole line letter space ∙ ap (λ t. 66 ∷ 32 ∷ t) (drop_all 2 line (omega arith)) in
-    short_line (omega arith) (subst (λ l. FirstWrong FirstRight l 3) (sym is) (first_wrong (halts_after [] 0 halts_empty) refl))
-
-pub wrong_digit : (line t : List ℕ) (i n : ℕ) → t ≡ drop 2 line → length line ≤ 16 → Stands line 0 66 → Stands line 1 32 → Begun t i n → i < length t → Blocked t i → FirstLineWrong line (i + 3)
-wrong_digit line t i n cut short letter space b h why =
-    let is : line ≡ 66 ∷ 32 ∷ t = whole line letter space ∙ ap (λ l. 66 ∷ 32 ∷ l) (sym cut) in
-    short_line short (subst (λ l. FirstWrong FirstRight l (i + 3)) (sym is) (first_wrong (halts_after t i (halts_text t i n b h why)) (omega arith)))
-
-pub all_read : (line t : List ℕ) (i n : ℕ) → t ≡ drop 2 line → 3 ≤ length line → Stands line 0 66 → Stands line 1 32 → Begun t i n → length t ≤ i → FirstRight line × (n ≡ digits_value 10 (drop 2 line))
-all_read line t i n cut three letter space b h =
+pub all_read : (t : List ℕ) (i n : ℕ) → 1 ≤ length t → Begun t i n → length t ≤ i → FirstRight (66 ∷ 32 ∷ t) × (n ≡ digits_value 10 t)
+all_read t i n some b h =
     let all : take i t ≡ t = take_all i t h in
     let is : n ≡ digits_value 10 t = b.is ∙ ap (digits_value 10) all in
-    let some : 1 ≤ length t = omega (arith, ap length cut, length-drop 2 line) in
-    let right : FirstRight line =
-    record { digits = t; whole = whole line letter space ∙ ap (λ l. 66 ∷ 32 ∷ l) (sym cut); spelled = (some, omega (arith, b.few, b.inside), subst Digits all b.digits); small = omega (arith, b.small, is) } in
-    (right, is ∙ ap (digits_value 10) cut)
-
-pub begun_none : (t : List ℕ) → Begun t 0 0
-begun_none t = record { few = omega arith; inside = omega arith; digits = tt; is = refl; small = omega arith }
+    (record { digits = t; whole = refl; spelled = (some, omega (arith, b.few, b.inside), subst Digits all b.digits); small = omega (arith, b.small, is) }, is)
 
 -- the number with one digit more
 abbrev pub longer : ℕ → ℕ → Option ℕ
@@ -173,11 +155,3 @@ blocked_here t i n b inside e =
     (λ none. inl none)
     (cases_Bool (admits Digit byte)))
     (cases_Bool (admits Digit byte && leb (n * 10 + (byte - 48)) 255))
-
--- the test of a byte at a place
-pub stands : (line : List ℕ) (at b : ℕ) → (ltb at (length line) && eqb (get_or line at 0) b) ≡ true → Stands line at b
-stands line at b h = let parts = and_parts _ _ h in (ltb-true _ _ parts.0, eqb-true _ _ parts.1)
-
-pub absent : (line : List ℕ) (at b : ℕ) → 0 < b → (ltb at (length line) && eqb (get_or line at 0) b) ≡ false → eqb (get_or line at 0) b ≡ false
-absent line at b some h =
-    ⊎_elim (λ (past : ltb at (length line) ≡ false). ne_eqb _ _ (λ e. omega (arith, get_or_past line at 0 (ltb-false _ _ past), e))) (λ other. other) (and_cases _ _ h)

@@ -2,7 +2,7 @@
 ghost use Rattle.std.specs.Prelude.{◌≡◌};
 ghost use Rattle.script.specs.Grammar.{admits};
 
-#[derive(Clone, Copy)]
+#[derive(Clone, Copy, PartialEq, Eq, Debug)]
 pub enum Class {
     Space,
     Bit,
@@ -11,14 +11,16 @@ pub enum Class {
     Hex,
 }
 
-/// Whether a byte is of the class.
-pub fn admitted(class: Class, byte: u8) -> bool
-    ensures { result ≡ admits class byte }
-{
-    match class {
-        Class::Space => byte == b' ',
-        Class::Bit => byte == b'0' || byte == b'1',
-        Class::Digit => b'0' <= byte && byte <= b'9',
-        Class::Hex => (b'0' <= byte && byte <= b'9') || (b'A' <= byte && byte <= b'F'),
+impl Class {
+    /// Whether a byte is of the class.
+    pub fn admits(self, byte: u8) -> bool
+        ensures { result ≡ admits self byte }
+    {
+        match self {
+            Class::Space => byte == b' ',
+            Class::Bit => matches!(byte, b'0' | b'1'),
+            Class::Digit => byte.is_ascii_digit(),
+            Class::Hex => matches!(byte, b'0'..=b'9' | b'A'..=b'F'),
+        }
     }
 }

@@ -1,6 +1,6 @@
 //! The commands of a script, with the values of their fields.
 
-#[derive(Clone, Copy)]
+#[derive(Clone, Copy, PartialEq, Eq, Debug)]
 pub enum Command {
     /// A pair of samples.
     Tick { current: u16, voltage: u16 },

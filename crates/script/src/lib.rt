@@ -5,7 +5,9 @@
 mod class;
 pub mod command;
 pub mod first;
+mod kind;
 pub mod line;
 pub mod reader;
+mod rest;
 
 pub use command::Command;

@@ -1,38 +1,29 @@
 //! From a line to its command: the fields' texts as values.
-ghost use Rattle.std.specs.Prelude.{◌≡◌, ◌<◌, true, [], ◌∷◌, MatchResult, ◌==◌, slice_index};
+ghost use Rattle.std.specs.Prelude.{◌≡◌, [], ◌∷◌, MatchResult, ◌==◌, slice_index};
 ghost use Rattle.std.specs.Str.Parse.{digits_value};
-ghost use Rattle.std.specs.Char.{digit_value};
+ghost use Rattle.std.specs.Str.{IsAscii};
 ghost use Rattle.script.specs.declared.class.Class.TheVariants.{Bit, Hex};
-ghost use Rattle.script.specs.Grammar.{admits, one, number, Spells, Matches, Right, Wrong};
+ghost use Rattle.script.specs.Grammar.{one, number, Spells, Matches, Right, Wrong};
 ghost use Rattle.script.specs.Said.{Spelled, spelling};
 ghost use Rattle.script.specs.Commands.{meant};
 
 use crate::command::Command;
 use crate::line::{Line, parse};
 
+/// The bytes of a field as text.
+fn ascii(text: &[u8]) -> &str
+    requires { IsAscii text.now }
+    ensures { result.now ≡ text.now }
+{
+    str::from_utf8(text).unwrap()
+}
+
 /// The value of one to four digits.
 fn decimal(text: &[u8]) -> u16
     requires { Spells number text.now }
     ensures { result ≡ digits_value 10 text.now }
 {
-    let mut n: u16 = 0;
-    for byte in text {
-        n = n * 10 + u16::from(*byte - b'0');
-    }
-    n
-}
-
-/// The value of a hexadecimal digit.
-fn nibble(digit: u8) -> u8
-    requires { admits Hex digit ≡ true }
-    ensures value { result ≡ digit_value digit }
-    ensures small { result < 16 }
-{
-    if digit <= b'9' {
-        digit - b'0'
-    } else {
-        digit - b'A' + 10
-    }
+    ascii(text).parse().unwrap()
 }
 
 /// The value of two hexadecimal digits.
@@ -40,7 +31,7 @@ fn hex(text: &[u8]) -> u8
     requires { Matches (one Hex ∷ one Hex ∷ []) text.now }
     ensures { result ≡ digits_value 16 text.now }
 {
-    nibble(text[0]) * 16 + nibble(text[1])
+    u8::from_str_radix(ascii(text), 16).unwrap()
 }
 
 /// The level that a bit says.
@@ -52,6 +43,7 @@ fn level(text: &[u8]) -> bool
 }
 
 /// The command of a line whose fields are spelled right.
+#[tactic(auto, using(crate::proofs::Values::tick_fields))]
 fn meaning(line: Line<'_>) -> Command
     requires { Spelled line }
     ensures { result ≡ meant (spelling line.entry) }
@@ -75,6 +67,7 @@ fn meaning(line: Line<'_>) -> Command
 }
 
 /// The command that a line says, or the first wrong column.
+// The error is a column and no type of its own: the column is all that is said of a wrong line.
 pub fn command(line: &[u8]) -> Result<Command, usize>
     ensures { MatchResult result (λ c. Right line.now × (c ≡ meant line.now)) (λ k. Wrong line.now k) }
 {

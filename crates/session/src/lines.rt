@@ -1,17 +1,14 @@
 //! Lines of a text: each ends at a line feed or, unless it is empty, at the end.
-ghost use Rattle.std.specs.Prelude.{◌≡◌, ◌<◌, length};
-ghost use Rattle.std.specs.List.{prefix_len};
-ghost use Rattle.session.specs.Lines.{in_line, line_of, after_line};
+ghost use Rattle.std.specs.Prelude.{◌≡◌, ◌<◌, ◌==◌, length, MatchOption};
+ghost use Rattle.std.specs.List.{position};
+ghost use Rattle.std.specs.Iterator.{at_most};
+ghost use Rattle.session.specs.Lines.{line_of, after_line};
 
-/// Where the first line feed stands, or the end.
-fn line_length(text: &[u8]) -> usize
-    ensures { result ≡ prefix_len in_line text.now }
+/// Where the first line feed stands.
+fn line_feed(text: &[u8]) -> Option<usize>
+    ensures { result ≡ position (λ b. b == 10) text.now }
 {
-    let mut n = 0;
-    while n < text.len() && text[n] != b'\n' {
-        n += 1;
-    }
-    n
+    text.iter().position(|byte| *byte == b'\n')
 }
 
 /// The first line, and what follows its line feed.
@@ -20,11 +17,40 @@ pub fn first_line(text: &[u8]) -> (&[u8], &[u8])
     ensures after { result.1.now ≡ after_line text.now }
     ensures less { 0 < length text.now → length result.1.now < length text.now }
 {
-    let n = line_length(text);
-    let (line, rest) = text.split_at(n);
-    if rest.len() == 0 {
-        return (line, rest);
+    match line_feed(text) {
+        Some(end) => (&text[..end], &text[end + 1..]),
+        None => (text, &[]),
     }
-    let (_, after) = rest.split_at(1);
-    (line, after)
+}
+
+/// The lines of a text, from the first to the last.
+#[derive(Drop)]
+pub struct Lines<'a> {
+    rest: &'a [u8],
+}
+
+impl<'a> Lines<'a> {
+    /// All lines of the text.
+    pub fn new(text: &'a [u8]) -> Lines<'a>
+        ensures { result.rest.now ≡ text.now }
+    {
+        Lines { rest: text }
+    }
+}
+
+impl<'a> Iterator for Lines<'a> {
+    type Item = &'a [u8];
+
+    ghost next_gives = { λ s r t. MatchOption r (length s.rest.now ≡ 0) (λ line. (line.now ≡ line_of s.rest.now) × (t.rest.now ≡ after_line s.rest.now)) };
+
+    ghost remaining = { λ s. at_most (length s.rest.now) };
+
+    fn next(&mut self) -> Option<&'a [u8]> {
+        if self.rest.is_empty() {
+            return None;
+        }
+        let (line, after) = first_line(self.rest);
+        self.rest = after;
+        Some(line)
+    }
 }

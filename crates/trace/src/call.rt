@@ -1,111 +1,98 @@
-//! A call of a master, and how it ended.
+//! A call of a master, and the byte of it that was not acknowledged.
 use bus::sender::{PutFault, ReadFault};
 use bus::{Bus, sender};
+use rig::{LONGEST_BLOCK, base_of};
+use samples::ring::{LENGTH, Resolution};
+use samples::signal::Signal;
 use std::fmt;
-
-/// How many bytes a block has here: two samples of ten bits.
-const BLOCK: usize = 4;
+use thiserror::Error;
 
 #[derive(Clone, Copy)]
 pub enum Request {
-    /// Writes a byte.
-    Put(u8),
-    /// Reads one byte.
-    Get,
-    /// Reads as many bytes as a block has.
-    Block,
+    /// Writes a byte into a register.
+    Put { register: u8, byte: u8 },
+    /// Reads a register.
+    Get(u8),
+    /// Reads a whole ring.
+    Block(Signal, Resolution),
 }
 
-/// A request, and the part and the register that it is for.
+/// A request, and the address of the part that it is for.
 #[derive(Clone, Copy)]
 pub struct Call {
     pub address: u8,
-    pub register: u8,
     pub request: Request,
 }
 
-/// How a call ended: with every byte acknowledged, or at the first byte that was not.
-#[derive(Clone, Copy)]
-pub enum Ending {
-    Acknowledged,
-    /// The address with the write bit.
-    NoAddress,
-    NoRegister,
-    NoData,
-    /// The address with the read bit, after the repeated START.
-    NoRepeat,
+/// The byte of a call that was not acknowledged, and which ended it.
+#[derive(Clone, Copy, Debug, Error)]
+pub enum NotAcknowledged {
+    /// With the write bit.
+    #[error("address not acknowledged")]
+    Address,
+    #[error("register not acknowledged")]
+    Register,
+    #[error("data not acknowledged")]
+    Data,
+    /// The address with the read bit.
+    #[error("address not acknowledged after the repeated START")]
+    Repeat,
+}
+
+// By hand: the derive takes a fault in whole, and does not turn case into case.
+impl From<PutFault> for NotAcknowledged {
+    fn from(e: PutFault) -> NotAcknowledged {
+        match e {
+            PutFault::Address => NotAcknowledged::Address,
+            PutFault::Register => NotAcknowledged::Register,
+            PutFault::Data => NotAcknowledged::Data,
+        }
+    }
+}
+
+impl From<ReadFault> for NotAcknowledged {
+    fn from(e: ReadFault) -> NotAcknowledged {
+        match e {
+            ReadFault::Address => NotAcknowledged::Address,
+            ReadFault::Register => NotAcknowledged::Register,
+            ReadFault::Repeat => NotAcknowledged::Repeat,
+        }
+    }
 }
 
 impl Call {
-    /// The whole call on a bus, from START to STOP.
-    pub(crate) fn make<B: Bus>(self, bus: &mut B) -> Ending {
-        match self.request {
-            Request::Put(byte) => Ending::of_put(sender::put(
-                bus,
-                self.address,
-                self.register,
-                byte,
-            )),
-            Request::Get => self.read(bus, &mut [0; 1]),
-            Request::Block => self.read(bus, &mut [0; BLOCK]),
-        }
-    }
-
-    fn read<B: Bus>(self, bus: &mut B, into: &mut [u8]) -> Ending {
-        Ending::of_read(sender::read(bus, self.address, self.register, into))
-    }
-}
-
-impl Ending {
-    fn of_put(put: Result<(), PutFault>) -> Ending {
-        match put {
-            Ok(()) => Ending::Acknowledged,
-            Err(PutFault::Address) => Ending::NoAddress,
-            Err(PutFault::Register) => Ending::NoRegister,
-            Err(PutFault::Data) => Ending::NoData,
-        }
-    }
-
-    fn of_read(read: Result<(), ReadFault>) -> Ending {
-        match read {
-            Ok(()) => Ending::Acknowledged,
-            Err(ReadFault::Address) => Ending::NoAddress,
-            Err(ReadFault::Register) => Ending::NoRegister,
-            Err(ReadFault::Repeat) => Ending::NoRepeat,
-        }
-    }
-
-    fn text(self) -> &'static str {
-        match self {
-            Ending::Acknowledged => "acknowledged",
-            Ending::NoAddress => "address not acknowledged",
-            Ending::NoRegister => "register not acknowledged",
-            Ending::NoData => "data not acknowledged",
-            Ending::NoRepeat => "address not acknowledged after the repeated START",
-        }
+    /// The whole call on a bus, from START to STOP, and its first byte of data, written or read.
+    pub(crate) fn make<B: Bus>(self, bus: &mut B) -> Result<u8, NotAcknowledged> {
+        let mut bytes = [0; LONGEST_BLOCK];
+        let (register, into) = match self.request {
+            Request::Put { register, byte } => {
+                sender::put(bus, self.address, register, byte)?;
+                return Ok(byte);
+            }
+            Request::Get(register) => (register, &mut bytes[0..1]),
+            Request::Block(signal, Resolution::Short) => (base_of(signal), &mut bytes[0..LENGTH]),
+            Request::Block(signal, Resolution::Full) => (
+                base_of(signal),
+                &mut bytes[0..2 * LENGTH],
+            ),
+        };
+        sender::read(bus, self.address, register, into)?;
+        Ok(bytes[0])
     }
 }
 
 impl fmt::Display for Call {
     fn fmt<W: fmt::Write>(&self, f: &mut fmt::Formatter<W>) -> fmt::Result {
         let address = self.address;
-        let register = self.register;
         match self.request {
-            Request::Put(byte) => write!(
+            Request::Put { register, byte } => write!(
                 f,
                 "put 0x{byte:02X} into 0x{register:02X} at 0x{address:02X}"
             ),
-            Request::Get => write!(f, "get 0x{register:02X} at 0x{address:02X}"),
-            Request::Block => write!(
-                f,
-                "block of {BLOCK} from 0x{register:02X} at 0x{address:02X}"
-            ),
+            Request::Get(register) => write!(f, "get 0x{register:02X} at 0x{address:02X}"),
+            Request::Block(signal, _) => {
+                write!(f, "block of the {signal} ring at 0x{address:02X}")
+            }
         }
-    }
-}
-
-impl fmt::Display for Ending {
-    fn fmt<W: fmt::Write>(&self, f: &mut fmt::Formatter<W>) -> fmt::Result {
-        f.write_str(self.text())
     }
 }

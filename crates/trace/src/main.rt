@@ -1,22 +1,45 @@
-//! A short story on the bus of a part, printed as a value change dump.
+//! The bus of the payload bay's part while a script is played, printed as a value change dump.
 #![tactic(auto)]
 
 mod call;
-mod story;
+mod player;
 mod vcd;
 
-use anyhow::anyhow;
-use bus::recorder::Recorder;
+use player::Player;
+use registers::pins::Pins;
+use script::first::hold_off;
+use script::reader::command;
+use session::LONGEST_SCRIPT;
+use session::lines::{Lines, first_line};
+use std::io::Read;
+use vcd::Dump;
+use wire::receiver::Receiver;
 
-/// Nothing is printed before the whole record is there: half a dump would read as a bus that fell silent.
-fn run(rt: &HostRuntime) -> anyhow::Result<()> {
-    let mut bus = Recorder::new(story::payload_bay(), rt.alloc());
-    let told = story::tell(&mut bus);
-    if !bus.complete() {
-        return Err(anyhow!("no memory for the record of the bus"));
+/// Plays the lines after the first; a wrong line does nothing on the bus.
+fn play(rt: &HostRuntime, mut player: Player, script: &[u8]) -> anyhow::Result<()> {
+    for line in Lines::new(script) {
+        if let Ok(command) = command(line) {
+            player.obey(rt, command)?;
+        }
     }
-    vcd::dump(rt, &told, bus.record())?;
+    player.dump.end(rt)?;
     Ok(())
+}
+
+fn run(rt: &HostRuntime) -> anyhow::Result<()> {
+    let mut script = Vec::new(rt.alloc());
+    rt.stdin()
+        .take(LONGEST_SCRIPT as u64 + 1)
+        .read_to_end(&mut script)?;
+    let dump = Dump::begin(rt)?;
+    let (line, rest) = first_line(&script);
+    match hold_off(line) {
+        Ok(silences) if script.len() <= LONGEST_SCRIPT => {
+            let part = Receiver::new(Pins::payload_bay(), silences);
+            play(rt, Player { part, dump }, rest)
+        }
+        _ => Ok(dump.end(rt)?),
+    }
 }
 
 fn main(rt: HostRuntime) -> anyhow::Result<()> {

@@ -1,16 +1,16 @@
 //! A record of the bus as a value change dump: one unit of time for each pair of levels.
 ghost use Rattle.std.specs.Prelude.{◌≡◌, ◌&&◌};
 
-use crate::story::Told;
+use crate::call::{Call, NotAcknowledged};
 use bus::levels::Levels;
 use bus::recorder::Recorded;
 use std::io;
 
-/// Both lines let go.
-const REST: Levels = Levels {
-    scl: true,
-    sda: true,
-};
+/// How the dump writes the line SCL.
+const SCL: char = '!';
+
+/// How the dump writes the line SDA.
+const SDA: char = '"';
 
 /// SDA is high only where neither end pulls it.
 fn bus_sda(recorded: Recorded) -> bool
@@ -30,72 +30,79 @@ fn bus_levels(recorded: Recorded) -> Levels
     }
 }
 
-fn header(rt: &impl Print) -> io::Result<()> {
-    println!(rt; "$timescale 1 us $end")?;
-    println!(rt; "$scope module bus $end")?;
-    println!(rt; "$var wire 1 ! SCL $end")?;
-    println!(rt; "$var wire 1 \" SDA $end")?;
-    println!(rt; "$upscope $end")?;
-    println!(rt; "$enddefinitions $end")
+/// How far a dump has come: the time of the last pair, and the lines as it left them.
+#[derive(Drop)]
+pub struct Dump {
+    time: u64,
+    levels: Levels,
 }
 
-/// The bus at rest, at time 0.
-fn at_rest(rt: &impl Print) -> io::Result<()> {
-    println!(rt; "#0")?;
-    println!(rt; "$dumpvars")?;
-    scl(rt, REST.scl)?;
-    sda(rt, REST.sda)?;
-    println!(rt; "$end")
-}
-
-fn scl(rt: &impl Print, level: bool) -> io::Result<()> {
+fn line(rt: &impl Print, mark: char, level: bool) -> io::Result<()> {
     let digit = u8::from(level);
-    println!(rt; "{digit}!")
+    println!(rt; "{digit}{mark}")
 }
 
-fn sda(rt: &impl Print, level: bool) -> io::Result<()> {
-    let digit = u8::from(level);
-    println!(rt; "{digit}\"")
-}
+impl Dump {
+    /// The header, and the bus at rest at time 0.
+    pub(crate) fn begin(rt: &impl Print) -> io::Result<Dump> {
+        println!(rt; "$timescale 1 us $end")?;
+        println!(rt; "$scope module bus $end")?;
+        println!(rt; "$var wire 1 {SCL} SCL $end")?;
+        println!(rt; "$var wire 1 {SDA} SDA $end")?;
+        println!(rt; "$upscope $end")?;
+        println!(rt; "$enddefinitions $end")?;
+        println!(rt; "#0")?;
+        println!(rt; "$dumpvars")?;
+        line(rt, SCL, Levels::REST.scl)?;
+        line(rt, SDA, Levels::REST.sda)?;
+        println!(rt; "$end")?;
+        Ok(Dump {
+            time: 0,
+            levels: Levels::REST,
+        })
+    }
 
-/// The lines that changed, with their time; nothing where none did.
-fn changes(rt: &impl Print, time: usize, old: Levels, new: Levels) -> io::Result<()> {
-    if old == new {
-        return Ok(());
-    }
-    println!(rt; "#{time}")?;
-    if old.scl != new.scl {
-        scl(rt, new.scl)?;
-    }
-    if old.sda != new.sda {
-        sda(rt, new.sda)?;
-    }
-    Ok(())
-}
-
-/// The call that begins after so many pairs, if one does.
-fn comment(rt: &impl Print, told: &[Told], before: usize) -> io::Result<()> {
-    for told in told {
-        if told.before == before {
-            let call = told.call;
-            let ending = told.ending;
-            println!(rt; "$comment {call}: {ending} $end")?;
+    /// One pair of levels: the lines that changed, with their time; nothing where none did.
+    fn pair(&mut self, rt: &impl Print, recorded: Recorded) -> io::Result<()> {
+        let old = self.levels;
+        let new = bus_levels(recorded);
+        let time = self.time.saturating_add(1);
+        self.time = time;
+        self.levels = new;
+        if old == new {
+            return Ok(());
         }
+        println!(rt; "#{time}")?;
+        if old.scl != new.scl {
+            line(rt, SCL, new.scl)?;
+        }
+        if old.sda != new.sda {
+            line(rt, SDA, new.sda)?;
+        }
+        Ok(())
     }
-    Ok(())
-}
 
-/// The dump. The bus rests at time 0, the first pair is driven at time 1, and the last one stands for a unit too.
-pub(crate) fn dump(rt: &impl Print, told: &[Told], record: &[Recorded]) -> io::Result<()> {
-    header(rt)?;
-    at_rest(rt)?;
-    let mut levels = REST;
-    for (k, recorded) in record.iter().enumerate() {
-        comment(rt, told, k)?;
-        let next = bus_levels(*recorded);
-        changes(rt, k + 1, levels, next)?;
-        levels = next;
+    /// A call as it was recorded, behind a comment that says how it ended.
+    pub(crate) fn call(
+        &mut self,
+        rt: &impl Print,
+        call: Call,
+        ending: Result<u8, NotAcknowledged>,
+        record: &[Recorded],
+    ) -> io::Result<()> {
+        match ending {
+            Ok(_) => println!(rt; "$comment {call}: acknowledged $end")?,
+            Err(e) => println!(rt; "$comment {call}: {e} $end")?,
+        }
+        for recorded in record {
+            self.pair(rt, *recorded)?;
+        }
+        Ok(())
     }
-    let end = record.len() + 1;
-    println!(rt; "#{end}")
+
+    /// The last pair stands for a unit too.
+    pub(crate) fn end(&self, rt: &impl Print) -> io::Result<()> {
+        let end = self.time.saturating_add(1);
+        println!(rt; "#{end}")
+    }
 }

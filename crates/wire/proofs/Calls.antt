@@ -1,8 +1,7 @@
 -- What the frame of a call means: the call.
 use Rattle.std.proofs.Common.{◌≡◌, ℕ, zero, suc, ◌+◌, ◌-◌, ◌<◌, ◌≤◌, Bool, true, false, cond, ◌&&◌, eqb, ltb, leb, List, [], length, get_or, is_err, Ok, Err, Result, sym, refl, ap, ◌∙◌, ⊎_elim, add-one, arith, lit<}
-use mathlib.Core.Path.{subst⁻¹}
 use Rattle.std.proofs.lemmas.List.FromFn.{fill_by_all}
-use Rattle.std.proofs.lemmas.Bool.{both_ways, cases_eq, cases_lt, cases_Bool, eq-eqb, ne_eqb, lt-ltb, le-ltb, le-leb, leb-true, cond-true, cond-false, and_from, and_parts, or_from, or_cases, eqb-true, ltb-true}
+use Rattle.std.proofs.lemmas.Bool.{cases_eq, cases_lt, cases_Bool, eq-eqb, ne_eqb, lt-ltb, le-ltb, le-leb, leb-true, cond-true, cond-false, and_from, and_parts, or_from, or_cases, eqb-true, ltb-true}
 use Rattle.bus.specs.declared.sender.PutFault.{PutFault}
 use Rattle.bus.specs.declared.sender.PutFault.TheVariants as put
 use Rattle.bus.specs.declared.sender.ReadFault.{ReadFault}
@@ -16,8 +15,6 @@ use Rattle.registers.specs.Questions.{resolution}
 use Rattle.part.specs.Events.{step, block as stop}
 use Rattle.part.specs.Model.{Model, address, monitor}
 use Rattle.part.specs.Shown.{shown}
-use Rattle.part.specs.Model.{model}
-use Rattle.part.proofs.Bounds.{shown_fits, block_fits}
 use Rattle.part.proofs.Steps.{block_settings, block_ring}
 use Rattle.rig.specs.declared.Refusal.{Refusal}
 use Rattle.rig.specs.declared.Refusal.TheVariants.{Silence, Length as TooLong, Register as NoRegister}
@@ -26,10 +23,11 @@ use Rattle.rig.proofs.Bus.{on_bus, good, bad, same_meaning, block_accepted, bloc
 use Rattle.rig.proofs.Waits.{one}
 use Rattle.wire.specs.declared.receiver.Phase.{Phase}
 use Rattle.wire.specs.declared.receiver.Phase.TheVariants.{Idle, Address, Register, Data, Acknowledge, Acknowledged, Send, Sent}
-use Rattle.wire.specs.Receive.{Line, Behind, view, pointing, wrote, to_send, next_pointer, next_place}
+use Rattle.wire.specs.Lines.{Line, Behind}
+use Rattle.wire.specs.Receive.{pointing, wrote, to_send, next_pointer, next_place}
 use Rattle.wire.specs.Rests.{Goes, rest, is_idle, rests, meaning_of, or_silence}
 use Rattle.wire.specs.Laws.{told_as, Does, PutFrames, GetFrames, BlockFrames, FramesAreCalls}
-use Rattle.wire.proofs.Runs.{from, seen}
+use Rattle.wire.proofs.Runs.{from}
 use Rattle.wire.proofs.Fed.{feed, fed}
 use Rattle.wire.proofs.Law.{put_own, put_hushed, hushed_other, hushed_owing, passes, Gives, opening, read_own, read_hushed}
 
@@ -38,16 +36,16 @@ use Rattle.wire.proofs.Law.{put_own, put_hushed, hushed_other, hushed_owing, pas
 resting_is : (c d x : Bool) (p : Phase) (o : ℕ) (b : Behind) → ((c && d) && (x && is_idle p)) ≡ true
     → ◌≡◌ {A = Line} (record { levels = pair c d; drives = x; phase = p; owed = o; behind = b }) (rest o b)
 resting_is true true true Idle o b e = refl
-resting_is true true true (Address s) o b e = absurd (both_ways false refl e)
-resting_is true true true (Register s) o b e = absurd (both_ways false refl e)
-resting_is true true true (Data s) o b e = absurd (both_ways false refl e)
-resting_is true true true (Acknowledge n) o b e = absurd (both_ways false refl e)
-resting_is true true true (Acknowledged n) o b e = absurd (both_ways false refl e)
-resting_is true true true (Send s) o b e = absurd (both_ways false refl e)
-resting_is true true true Sent o b e = absurd (both_ways false refl e)
-resting_is true true false p o b e = absurd (both_ways false refl e)
-resting_is true false x p o b e = absurd (both_ways false refl e)
-resting_is false d x p o b e = absurd (both_ways false refl e)
+resting_is true true true (Address s) o b e = cc
+resting_is true true true (Register s) o b e = cc
+resting_is true true true (Data s) o b e = cc
+resting_is true true true (Acknowledge n) o b e = cc
+resting_is true true true (Acknowledged n) o b e = cc
+resting_is true true true (Send s) o b e = cc
+resting_is true true true Sent o b e = cc
+resting_is true true false p o b e = cc
+resting_is true false x p o b e = cc
+resting_is false d x p o b e = cc
 
 pub rest_is : (v : Line) → rests v ≡ true → v ≡ rest v.owed v.behind
 rest_is v e = resting_is v.levels.scl v.levels.sda v.drives v.phase v.owed v.behind e
@@ -112,15 +110,15 @@ module _ (m : Meaning) (c : Call) (a : ℕ) (to : SentTo m c a) where
 
 pub said_ok : {F : Type 0} (f : Result (Unit {0}) F) (g : Answer) (u : Unit {0}) → Ok u ≡ or_silence f → told_as g f ≡ g
 said_ok (Ok x) g u e = refl
-said_ok (Err x) g u e = absurd (let z : ◌≡◌ {A = ℕ} 0 1 = cc in let no : ⊥ = omega arith in no)
+said_ok (Err x) g u e = cc
 
 pub was_err : {F : Type 0} (f : Result (Unit {0}) F) (e : Refusal) → Err e ≡ or_silence f → is_err f ≡ true
-was_err (Ok x) e is = absurd (let z : ◌≡◌ {A = ℕ} 0 1 = cc in let no : ⊥ = omega arith in no)
+was_err (Ok x) e is = cc
 was_err (Err x) e is = refl
 
 pub said_err : {F : Type 0} (f : Result (Unit {0}) F) (g : Answer) (e : Refusal) → Err e ≡ or_silence f → told_as g f ≡ refused e
-said_err (Ok x) g e is = absurd (let z : ◌≡◌ {A = ℕ} 0 1 = cc in let no : ⊥ = omega arith in no)
-said_err (Err x) g e is = let same : e ≡ Silence = cc in ap refused (sym same)
+said_err (Ok x) g e is = cc
+said_err (Err x) g e is = cc
 
 put_to : (m : Meaning) (a r x : ℕ) → r ≤ 0x45 → SentTo m (puts a r x) a
 put_to m a r x h =
@@ -198,7 +196,7 @@ module _ (v w : Line) (still : rests v ≡ true) where
 
   module _ (c : Call) (a r n : ℕ) (ns : List ℕ) (f : Result (Unit {0}) ReadFault) (g : Answer)
       (to : SentTo (meaning_of v) c a) (base : r ≤ 0x47) (len : length ns ≡ suc n)
-      (small : (k : ℕ) → get_or ns k 0 < 256) (fits : (k : ℕ) → k < length ns → to_send (passes (opening v.behind r) k) < 256)
+      (small : (k : ℕ) → get_or ns k 0 < 256)
       (does_it : (opening v.behind r).part ≡ does v.behind.part c)
       (gives : Gives (opening v.behind r) ns (length ns) → g ≡ good v.behind.part c)
       (above : 128 ≤ a → f ≡ Err read.Address) (run : Driven Goes v (read_frame a r ns f) w) where
@@ -216,7 +214,7 @@ module _ (v w : Line) (still : rests v ≡ true) where
         (λ (here : address v.behind.part ≡ a).
         ⊎_elim
         (λ (none : v.owed ≡ 0).
-        let q = read_own v.owed v.behind a r here none near base n ns f (sym len) small fits read_rest in
+        let q = read_own v.owed v.behind a r here none near base n ns f (sym len) small read_rest in
         done_call c a (told_as g f) (passes (opening v.behind r) (length ns)) to (ap (told_as g) q.0 ∙ gives q.2) here none
         (passes_part (opening v.behind r) (length ns) ∙ does_it) q.1)
         (λ owes.
@@ -305,34 +303,27 @@ block_to m a base n t u =
       mute = ap (λ y. cond y (cond (ring_base base) (refused Silence) (refused NoRegister)) (refused TooLong)) t ∙ ap (λ y. cond y (refused Silence) (refused NoRegister)) u;
     }
 
--- ---- the two reads, on the code's receiver
+-- ---- each frame is its call
 
 pub put_frames : PutFrames
-put_frames s t a r x f still low small above run = put_means (view s) (view t) still a r x f low small above (seen view Goes run)
+put_frames v w a r x f still low small above run = put_means v w still a r x f low small above run
 
 pub get_frames : GetFrames
-get_frames s t a r ns f still low len small above run =
-    let v = view s in
-    let first : to_send (opening v.behind r) ≡ shown (model s.part) r = register_sent v.behind r low in
-    let fit : to_send (opening v.behind r) < 256 = subst⁻¹ (λ (x : ℕ). x < 256) first (shown_fits s.part r (omega arith)) in
-    let none : (k : ℕ) → k < length ns → k ≡ 0 = λ k h. omega arith in
-    read_means v (view t) still (gets a r) a r 0 ns f (byte (get_or ns 0 0)) (get_to (meaning_of v) a r low) (omega arith) len small
-    (λ k h. subst⁻¹ (λ (j : ℕ). to_send (passes (opening v.behind r) j) < 256) (none k h) fit)
+get_frames v w a r ns f still low len small above run =
+    read_means v w still (gets a r) a r 0 ns f (byte (get_or ns 0 0)) (get_to (meaning_of v) a r low) (omega arith) len small
     (register_part v.behind r low)
-    (λ gives. ap byte (gives 0 (omega arith) ∙ first))
-    above (seen view Goes run)
+    (λ gives. ap byte (gives 0 (omega arith) ∙ register_sent v.behind r low))
+    above run
 
 pub block_frames : BlockFrames
-block_frames s t a base ns f still fits ring small above run =
-    let v = view s in
+block_frames v w a base ns f still fits ring small above run =
     let parts = and_parts (ltb 0 (length ns)) (leb (length ns) 100) fits in
     let some : 0 < length ns = ltb-true 0 (length ns) parts.0 in
     let few : length ns ≤ 100 = leb-true (length ns) 100 parts.1 in
-    read_means v (view t) still (blocks a base (length ns)) a base (length ns - 1) ns f (bytes ns) (block_to (meaning_of v) a base (length ns) fits ring) (low_base base ring) (sub_one_suc (length ns) some) small
-    (λ k h. subst⁻¹ (λ (x : ℕ). x < 256) (ring_sent v.behind base ring k (omega arith)) (block_fits s.part (ring_at base) k))
+    read_means v w still (blocks a base (length ns)) a base (length ns - 1) ns f (bytes ns) (block_to (meaning_of v) a base (length ns) fits ring) (low_base base ring) (sub_one_suc (length ns) some) small
     (ring_part v.behind base ring)
     (λ gives. ap bytes (ring_bytes v.behind base ring ns few gives))
-    above (seen view Goes run)
+    above run
 
 pub frames_are_calls : FramesAreCalls
 frames_are_calls = record { puts = put_frames; gets = get_frames; blocks = block_frames }
@@ -345,13 +336,13 @@ module _ (m : Meaning) (a base : ℕ) (out : List ℕ) (fits : sized (length out
   pub filled_done : (ns : List ℕ) → bytes ns ≡ answer m (blocks a base (length out)) → ns ≡ filled m a base out
   filled_done ns e =
       ⊎_elim
-      (λ (t : hears m a ≡ true). let q = by_answer true t in let same : bytes ns ≡ bytes (block_of m.part base (length out)) = e ∙ q.0 in let is : ns ≡ block_of m.part base (length out) = cc in is ∙ sym q.1)
-      (λ (t : hears m a ≡ false). absurd (let no : bytes ns ≡ refused Silence = e ∙ (by_answer false t).0 in let z : ◌≡◌ {A = ℕ} 0 1 = cc in let bad' : ⊥ = omega arith in bad'))
+      (λ (t : hears m a ≡ true). let q = by_answer true t in let says = q.0 in let fills = q.1 in cc)
+      (λ (t : hears m a ≡ false). let says = (by_answer false t).0 in cc)
       (cases_Bool (hears m a))
 
   pub filled_refused : (e : Refusal) → refused e ≡ answer m (blocks a base (length out)) → out ≡ filled m a base out
   filled_refused e is =
       ⊎_elim
-      (λ (t : hears m a ≡ true). absurd (let no : refused e ≡ bytes (block_of m.part base (length out)) = is ∙ (by_answer true t).0 in let z : ◌≡◌ {A = ℕ} 0 1 = cc in let bad' : ⊥ = omega arith in bad'))
+      (λ (t : hears m a ≡ true). let says = (by_answer true t).0 in cc)
       (λ (t : hears m a ≡ false). sym (by_answer false t).1)
       (cases_Bool (hears m a))

@@ -1,10 +1,10 @@
 -- What a receiver makes of whole bytes.
-use Rattle.std.proofs.Common.{◌≡◌, ℕ, zero, suc, ◌+◌, ◌-◌, ◌<◌, Bool, true, false, cond, not, ltb, List, [], ◌∷◌, ◌++◌, refl, ap, ◌∙◌, add-one, arith}
+use Rattle.std.proofs.Common.{◌≡◌, ℕ, Some, None, zero, suc, ◌+◌, ◌-◌, ◌<◌, Bool, true, false, cond, not, ltb, List, [], ◌∷◌, ◌++◌, refl, ap, ◌∙◌, add-one, arith}
 use Rattle.std.proofs.lemmas.Bool.{lt-ltb}
 use Rattle.bus.specs.declared.levels.Levels.{Levels}
 use Rattle.bus.specs.Frames.{Beat, tell, hear, Driven, done, told, heard, pair, bit_at, bit_frame, heard_frame, bits_frame, byte_frame}
-use Rattle.wire.specs.declared.receiver.Taken.TheVariants.{More, Whole}
-use Rattle.wire.specs.Receive.{Line, Behind, received, Kind, address_byte, register_byte, data_byte, taking_phase, whole, bit_taken}
+use Rattle.wire.specs.Lines.{Line, Behind}
+use Rattle.wire.specs.Receive.{received, Kind, address_byte, register_byte, data_byte, taking_phase, whole, bit_taken, empty}
 use Rattle.wire.specs.Rests.{Goes}
 use Rattle.wire.proofs.Runs.{split}
 use Rattle.wire.proofs.Joined.{shift_in, front, front_all}
@@ -26,7 +26,7 @@ taking o b k m i l = record { levels = l; drives = true; phase = taking_phase k 
 module _ (o : ℕ) (b : Behind) where
   -- one bit in, whatever SCL was before
   abbrev One : Kind → ℕ → ℕ → Bool → Bool → Bool → Type 0
-  One k m i c d x = feed (taking o b k m i (pair c d)) (bit_frame x) ≡ received (bit_taken (taking o b k m i (pair true x)) k (cond (ltb i 7) (More (record { bits = shift_in m x; count = i + 1 })) (Whole (shift_in m x)))) (pair false x)
+  One k m i c d x = feed (taking o b k m i (pair c d)) (bit_frame x) ≡ received (bit_taken (taking o b k m i (pair true x)) k (cond (ltb i 7) None (Some (shift_in m x))) (cond (ltb i 7) (record { bits = shift_in m x; count = i + 1 }) empty)) (pair false x)
 
   one_bit : (k : Kind) (m i : ℕ) (c d x : Bool) → One k m i c d x
   one_bit address_byte m i true d x = refl
@@ -44,7 +44,7 @@ module _ (o : ℕ) (b : Behind) where
   bit_more : (k : Kind) (m i : ℕ) (c d x : Bool) → ltb i 7 ≡ true → feed (taking o b k m i (pair c d)) (bit_frame x) ≡ taking o b k (shift_in m x) (i + 1) (pair false x)
   bit_more k m i c d x h =
       one_bit k m i c d x
-      ∙ ap (λ (t : Bool). received (bit_taken (taking o b k m i (pair true x)) k (cond t (More (record { bits = shift_in m x; count = i + 1 })) (Whole (shift_in m x)))) (pair false x)) h
+      ∙ ap (λ (t : Bool). received (bit_taken (taking o b k m i (pair true x)) k (cond t None (Some (shift_in m x))) (cond t (record { bits = shift_in m x; count = i + 1 }) empty)) (pair false x)) h
       ∙ settles k (shift_in m x) (i + 1) x
 
   -- the levels after i bits of n

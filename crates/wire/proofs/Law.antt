@@ -1,16 +1,16 @@
 -- What the frame of a call makes of a receiver at rest.
 use Rattle.std.proofs.Common.{◌≡◌, ℕ, zero, suc, ◌+◌, ◌-◌, ◌*◌, ◌/◌, ◌%◌, ◌^◌, ◌<◌, ◌≤◌, Bool, true, false, cond, eqb, ltb, leb, List, [], ◌++◌, length, get_or, Ok, Err, Result, sym, refl, ap, ◌∙◌, subst, pow-suc, add-one, arith, below_more}
-use borrow.Author.Tests.{clash}
 use Rattle.std.proofs.lemmas.Bool.{lt-ltb, eq-eqb, ne_eqb, le-leb, eqb-true, eqb-false, ltb-true, ltb-false, not-true, not-false, cond-true, cond-false}
 use Rattle.bus.specs.declared.sender.PutFault.{PutFault}
 use Rattle.bus.specs.declared.sender.PutFault.TheVariants as put
 use Rattle.bus.specs.declared.sender.ReadFault.{ReadFault}
 use Rattle.bus.specs.declared.sender.ReadFault.TheVariants as read
-use Rattle.bus.specs.Frames.{Beat, Driven, told, pair, bit_at, bit_frame, heard_frame, byte_frame, start_frame, repeat_frame, stop_frame, taken_bits, taken_bytes, put_frame, read_frame, write_address, read_address}
+use Rattle.bus.specs.Frames.{Beat, Driven, done, told, heard, pair, bit_at, bit_frame, heard_frame, bits_frame, byte_frame, start_frame, repeat_frame, stop_frame, taken_bits, taken_bytes, put_frame, read_frame, write_address, read_address}
 use Rattle.part.specs.Model.{address}
 use Rattle.wire.specs.declared.receiver.Next.TheVariants as next
 use Rattle.wire.specs.declared.receiver.Phase.TheVariants.{Idle, Acknowledge, Send, Sent}
-use Rattle.wire.specs.Receive.{Line, Behind, Kind, address_byte, register_byte, data_byte, in_phase, with_behind, pointing, wrote, read_from, passed, to_send}
+use Rattle.wire.specs.Lines.{Line, Behind}
+use Rattle.wire.specs.Receive.{Kind, address_byte, register_byte, data_byte, in_phase, with_behind, pointing, wrote, read_from, passed, to_send}
 use Rattle.wire.specs.Rests.{Goes, rest}
 use Rattle.wire.proofs.Runs.{from, split}
 use Rattle.wire.proofs.Joined.{front}
@@ -96,38 +96,49 @@ data_run o b n acked h k p =
 sent_out : {t s : Line} {ks : List Beat} (a : ℕ) → a < 128 → Driven Goes s (cond (ltb a 128) ks []) t → Driven Goes s ks t
 sent_out {t = t} {s = s} {ks = ks} a h p = subst (λ xs. Driven Goes s xs t) (cond-true (ltb a 128) ks [] (lt-ltb a 128 h)) p
 
+-- ---- the first byte of a call, answered or not
+
+module _ (o : ℕ) (b : Behind) (a : ℕ) (e : address b.part ≡ a) (z : o ≡ 0) (h : a < 128) where
+  own_answered : {t : Line} {ks : List Beat} → Driven Goes (rest o b) (start_frame ++ (byte_frame (write_address a) true ++ ks)) t → Driven Goes (listening o b register_byte) ks t
+  own_answered p = let q = split (byte_frame (write_address a) true) (started o b p) in from (own_run o b a true e z h q.1).1 q.2
+
+  own_unanswered : {t : Line} → Driven Goes (rest o b) (cond (ltb a 128) (start_frame ++ (byte_frame (write_address a) false ++ stop_frame)) []) t → ⊥
+  own_unanswered p = let acked = (own_run o b a false e z h (split (byte_frame (write_address a) false) (started o b (sent_out a h p))).1).0 in cc
+
+module _ (o n : ℕ) (b : Behind) (a : ℕ) (h : a < 128) (e : Hushed o n b a) where
+  hushed_answered : {t : Line} (ks : List Beat) → Driven Goes (rest o b) (start_frame ++ (byte_frame (write_address a) true ++ ks)) t → ⊥
+  hushed_answered ks p = let acked = (hushed_run o n b a true h e (split (byte_frame (write_address a) true) (started o b p)).1).0 in cc
+
+  hushed_unanswered : {t : Line} → Driven Goes (rest o b) (cond (ltb a 128) (start_frame ++ (byte_frame (write_address a) false ++ stop_frame)) []) t → t ≡ rest n b
+  hushed_unanswered p =
+      let q = split (byte_frame (write_address a) false) (started o b (sent_out a h p)) in
+      idle_stopped n b (hushed_run o n b a false h e q.1).1 q.2
+
 -- ---- put
 
 -- to the part's own address, nothing being owed: the byte is written
 pub put_own : {t : Line} (o : ℕ) (b : Behind) (a r x : ℕ) (f : Result (Unit {0}) PutFault) → address b.part ≡ a → o ≡ 0 → a < 128 → r ≤ 0x45 → x < 256
     → Driven Goes (rest o b) (put_frame a r x f) t → (f ≡ Ok tt) × (t ≡ rest o (wrote (pointing b r) x))
 put_own o b a r x (Ok u) e z h k l p =
-    let q = split (byte_frame (write_address a) true) (started o b p) in
-    let q₂ = split (byte_frame r true) (from (own_run o b a true e z h q.1).1 q.2) in
-    let q₃ = split (byte_frame x true) (from (register_run o b r true (omega arith) q₂.1).1 q₂.2) in
-    (refl, stopped o (wrote (pointing b r) x) (data_run o (pointing b r) x true l k q₃.1).1 q₃.2)
-put_own o b a r x (Err put.Address) e z h k l p =
-    let q = split (byte_frame (write_address a) false) (started o b (sent_out a h p)) in
-    absurd (clash (own_run o b a false e z h q.1).0)
+    let q = split (byte_frame r true) (own_answered o b a e z h p) in
+    let q₂ = split (byte_frame x true) (from (register_run o b r true (omega arith) q.1).1 q.2) in
+    (refl, stopped o (wrote (pointing b r) x) (data_run o (pointing b r) x true l k q₂.1).1 q₂.2)
+put_own o b a r x (Err put.Address) e z h k l p = absurd (own_unanswered o b a e z h p)
 put_own o b a r x (Err put.Register) e z h k l p =
-    let q = split (byte_frame (write_address a) true) (started o b p) in
-    let q₂ = split (byte_frame r false) (from (own_run o b a true e z h q.1).1 q.2) in
-    absurd (clash (register_run o b r false (omega arith) q₂.1).0)
+    let q = split (byte_frame r false) (own_answered o b a e z h p) in
+    let acked = (register_run o b r false (omega arith) q.1).0 in cc
 put_own o b a r x (Err put.Data) e z h k l p =
-    let q = split (byte_frame (write_address a) true) (started o b p) in
-    let q₂ = split (byte_frame r true) (from (own_run o b a true e z h q.1).1 q.2) in
-    let q₃ = split (byte_frame x false) (from (register_run o b r true (omega arith) q₂.1).1 q₂.2) in
-    absurd (clash (data_run o (pointing b r) x false l k q₃.1).0)
+    let q = split (byte_frame r true) (own_answered o b a e z h p) in
+    let q₂ = split (byte_frame x false) (from (register_run o b r true (omega arith) q.1).1 q.2) in
+    let acked = (data_run o (pointing b r) x false l k q₂.1).0 in cc
 
 -- where the first byte is not acknowledged: nothing but the debt changes
 pub put_hushed : {t : Line} (o n : ℕ) (b : Behind) (a r x : ℕ) (f : Result (Unit {0}) PutFault) → a < 128 → Hushed o n b a
     → Driven Goes (rest o b) (put_frame a r x f) t → (f ≡ Err put.Address) × (t ≡ rest n b)
-put_hushed o n b a r x (Ok u) h e p = absurd (clash (sym (hushed_run o n b a true h e (split (byte_frame (write_address a) true) (started o b p)).1).0))
-put_hushed o n b a r x (Err put.Address) h e p =
-    let q = split (byte_frame (write_address a) false) (started o b (sent_out a h p)) in
-    (refl, idle_stopped n b (hushed_run o n b a false h e q.1).1 q.2)
-put_hushed o n b a r x (Err put.Register) h e p = absurd (clash (sym (hushed_run o n b a true h e (split (byte_frame (write_address a) true) (started o b p)).1).0))
-put_hushed o n b a r x (Err put.Data) h e p = absurd (clash (sym (hushed_run o n b a true h e (split (byte_frame (write_address a) true) (started o b p)).1).0))
+put_hushed o n b a r x (Ok u) h e p = absurd (hushed_answered o n b a h e _ p)
+put_hushed o n b a r x (Err put.Address) h e p = (refl, hushed_unanswered o n b a h e p)
+put_hushed o n b a r x (Err put.Register) h e p = absurd (hushed_answered o n b a h e _ p)
+put_hushed o n b a r x (Err put.Data) h e p = absurd (hushed_answered o n b a h e _ p)
 
 -- ---- bytes that the receiver sends
 
@@ -224,17 +235,32 @@ acked_level (suc i) = false
 abbrev serving : ℕ → Behind → ℕ → Line
 serving o b i = sending o (passes b i) (acked_level i) (to_send (passes b i)) 0
 
-module _ (o : ℕ) (b : Behind) (ns : List ℕ) (small : (k : ℕ) → get_or ns k 0 < 256) (fits : (k : ℕ) → k < length ns → to_send (passes b k) < 256) where
-  served : (i : ℕ) {t : Line} → i < length ns → Driven Goes (serving o b 0) (taken_bytes ns i) t → (t ≡ serving o b i) × Gives b ns i
+-- what is to be sent after a bit, or a byte, is a byte
+bit_fits : {t s : Line} (x : Bool) → Driven Goes s (bit_frame x) t → to_send t.behind < 256
+bit_fits x (told p (told q (told r done))) = r.fits
+
+byte_fits : {t s : Line} (n : ℕ) (acked : Bool) → Driven Goes s (byte_frame n acked) t → to_send t.behind < 256
+unfolding byte_frame
+byte_fits n acked p = heard_fits (split (bits_frame n 8) p).2
+  where
+    heard_fits : {t s : Line} {b a : Bool} → Driven Goes s (heard_frame b a) t → to_send t.behind < 256
+    heard_fits (told p (heard q (told r done))) = r.fits
+
+module _ (o : ℕ) (b : Behind) (ns : List ℕ) (small : (k : ℕ) → get_or ns k 0 < 256) (first : to_send b < 256) where
+  served : (i : ℕ) {t : Line} → i < length ns → Driven Goes (serving o b 0) (taken_bytes ns i) t → (t ≡ serving o b i) × (to_send (passes b i) < 256) × Gives b ns i
   unfolding taken_bytes
-  served zero h p = (fed p, λ k l. omega arith)
+  served zero h p = (fed p, first, λ k l. omega arith)
   served (suc i) {t = t} h p =
       let q = split (taken_bytes ns i) p in
       let s = served i (omega arith) q.1 in
       let q₂ = split (taken_bits (get_or ns i 0) 8) (from s.0 q.2) in
-      let s₂ = sends_all o (passes b i) (acked_level i) (to_send (passes b i)) (get_or ns i 0) (fits i (omega arith)) (small i) q₂.1 in
+      let s₂ = sends_all o (passes b i) (acked_level i) (to_send (passes b i)) (get_or ns i 0) s.1 (small i) q₂.1 in
       let e : eqb (i + 1) (length ns) ≡ false = ne_eqb _ _ (omega arith) in
-      (more_run o (passes b i) _ e s₂.1 q₂.2, λ k l. below_more (λ j. get_or ns j 0 ≡ to_send (passes b j)) i s.1 s₂.0 k (omega arith))
+      let more = more_run o (passes b i) _ e s₂.1 q₂.2 in (
+        more,
+        subst (λ (x : Line). to_send x.behind < 256) more (bit_fits _ q₂.2),
+        λ k l. below_more (λ j. get_or ns j 0 ≡ to_send (passes b j)) i s.2 s₂.0 k (omega arith),
+      )
 
   served_all : (i : ℕ) {t : Line} → suc i ≡ length ns → Driven Goes (serving o b 0) (taken_bytes ns (suc i)) t → (t ≡ idle o (passes b (suc i))) × Gives b ns (suc i)
   unfolding taken_bytes
@@ -242,9 +268,9 @@ module _ (o : ℕ) (b : Behind) (ns : List ℕ) (small : (k : ℕ) → get_or ns
       let q = split (taken_bytes ns i) p in
       let s = served i (omega arith) q.1 in
       let q₂ = split (taken_bits (get_or ns i 0) 8) (from s.0 q.2) in
-      let s₂ = sends_all o (passes b i) (acked_level i) (to_send (passes b i)) (get_or ns i 0) (fits i (omega arith)) (small i) q₂.1 in
+      let s₂ = sends_all o (passes b i) (acked_level i) (to_send (passes b i)) (get_or ns i 0) s.1 (small i) q₂.1 in
       let e : eqb (i + 1) (length ns) ≡ true = eq-eqb _ _ (omega arith) in
-      (enough_run o (passes b i) _ e s₂.1 q₂.2, λ k l. below_more (λ j. get_or ns j 0 ≡ to_send (passes b j)) i s.1 s₂.0 k (omega arith))
+      (enough_run o (passes b i) _ e s₂.1 q₂.2, λ k l. below_more (λ j. get_or ns j 0 ≡ to_send (passes b j)) i s.2 s₂.0 k (omega arith))
 
 -- ---- get and block
 
@@ -257,47 +283,41 @@ module _ (o : ℕ) (b : Behind) (a r : ℕ) (e : address b.part ≡ a) (z : o �
   headed : {t : Line} {ks : List Beat} → Driven Goes (rest o b) (start_frame ++ (byte_frame (write_address a) true ++ (byte_frame r true ++ (repeat_frame ++ ks)))) t
       → Driven Goes (taking o (pointing b r) address_byte 0 0 (pair true false)) ks t
   headed p =
-      let q = split (byte_frame (write_address a) true) (started o b p) in
-      let q₂ = split (byte_frame r true) (from (own_run o b a true e z h q.1).1 q.2) in
-      let q₃ = split repeat_frame (from (register_run o b r true k q₂.1).1 q₂.2) in
-      from (restarted o (pointing b r) refl q₃.1) q₃.2
+      let q = split (byte_frame r true) (own_answered o b a e z h p) in
+      let q₂ = split repeat_frame (from (register_run o b r true k q.1).1 q.2) in
+      from (restarted o (pointing b r) refl q₂.1) q₂.2
 
-  read_done : {t : Line} (i : ℕ) (ns : List ℕ) → suc i ≡ length ns → ((k : ℕ) → get_or ns k 0 < 256) → ((k : ℕ) → k < length ns → to_send (passes (opening b r) k) < 256)
+  read_done : {t : Line} (i : ℕ) (ns : List ℕ) → suc i ≡ length ns → ((k : ℕ) → get_or ns k 0 < 256)
       → Driven Goes (rest o b) (start_frame ++ (byte_frame (write_address a) true ++ (byte_frame r true ++ (repeat_frame ++ (byte_frame (read_address a) true ++ (taken_bytes ns (length ns) ++ stop_frame)))))) t
       → (t ≡ rest o (passes (opening b r) (length ns))) × Gives (opening b r) ns (length ns)
-  read_done i ns l small fits p =
+  read_done i ns l small p =
       let q = split (byte_frame (read_address a) true) (headed p) in
       let s = read_run o (pointing b r) a true e z h q.1 in
+      let first : to_send (opening b r) < 256 = subst (λ (x : Line). to_send x.behind < 256) s.1 (byte_fits (read_address a) true q.1) in
       let q₂ = split (taken_bytes ns (length ns)) (from s.1 q.2) in
-      let s₂ = served_all o (opening b r) ns small fits i l (subst (λ y. Driven Goes (serving o (opening b r) 0) (taken_bytes ns y) q₂.0) (sym l) q₂.1) in
+      let s₂ = served_all o (opening b r) ns small first i l (subst (λ y. Driven Goes (serving o (opening b r) 0) (taken_bytes ns y) q₂.0) (sym l) q₂.1) in
       (idle_stopped o (passes (opening b r) (length ns)) (s₂.0 ∙ ap (λ y. idle o (passes (opening b r) y)) l) q₂.2, subst (Gives (opening b r) ns) l s₂.1)
 
   -- at the part's own address, nothing being owed
-  pub read_own : {t : Line} (i : ℕ) (ns : List ℕ) (f : Result (Unit {0}) ReadFault) → suc i ≡ length ns → ((k : ℕ) → get_or ns k 0 < 256) → ((k : ℕ) → k < length ns → to_send (passes (opening b r) k) < 256)
+  pub read_own : {t : Line} (i : ℕ) (ns : List ℕ) (f : Result (Unit {0}) ReadFault) → suc i ≡ length ns → ((k : ℕ) → get_or ns k 0 < 256)
       → Driven Goes (rest o b) (read_frame a r ns f) t
       → (f ≡ Ok tt) × (t ≡ rest o (passes (opening b r) (length ns))) × Gives (opening b r) ns (length ns)
-  read_own {t = t} i ns (Ok u) l small fits p =
+  read_own {t = t} i ns (Ok u) l small p =
       let some : eqb (length ns) 0 ≡ false = ne_eqb _ _ (omega arith) in
-      let d = read_done i ns l small fits (subst (λ ks. Driven Goes (rest o b) ks t) (cond-false (eqb (length ns) 0) [] _ some) p) in
+      let d = read_done i ns l small (subst (λ ks. Driven Goes (rest o b) ks t) (cond-false (eqb (length ns) 0) [] _ some) p) in
       (refl, d.0, d.1)
-  read_own i ns (Err read.Address) l small fits p =
-      let q = split (byte_frame (write_address a) false) (started o b (sent_out a h p)) in
-      absurd (clash (own_run o b a false e z h q.1).0)
-  read_own i ns (Err read.Register) l small fits p =
-      let q = split (byte_frame (write_address a) true) (started o b p) in
-      let q₂ = split (byte_frame r false) (from (own_run o b a true e z h q.1).1 q.2) in
-      absurd (clash (register_run o b r false k q₂.1).0)
-  read_own i ns (Err read.Repeat) l small fits p =
+  read_own i ns (Err read.Address) l small p = absurd (own_unanswered o b a e z h p)
+  read_own i ns (Err read.Register) l small p =
+      let q = split (byte_frame r false) (own_answered o b a e z h p) in
+      let acked = (register_run o b r false k q.1).0 in cc
+  read_own i ns (Err read.Repeat) l small p =
       let q = split (byte_frame (read_address a) false) (headed p) in
-      absurd (clash (read_run o (pointing b r) a false e z h q.1).0)
+      let acked = (read_run o (pointing b r) a false e z h q.1).0 in cc
 
 pub read_hushed : {t : Line} (o n : ℕ) (b : Behind) (a r : ℕ) (ns : List ℕ) (f : Result (Unit {0}) ReadFault) → a < 128 → Hushed o n b a → (length ns ≡ 0 → ⊥)
     → Driven Goes (rest o b) (read_frame a r ns f) t → (f ≡ Err read.Address) × (t ≡ rest n b)
 read_hushed {t = t} o n b a r ns (Ok u) h e some p =
-    let p₂ = subst (λ ks. Driven Goes (rest o b) ks t) (cond-false (eqb (length ns) 0) [] _ (ne_eqb _ _ some)) p in
-    absurd (clash (sym (hushed_run o n b a true h e (split (byte_frame (write_address a) true) (started o b p₂)).1).0))
-read_hushed o n b a r ns (Err read.Address) h e some p =
-    let q = split (byte_frame (write_address a) false) (started o b (sent_out a h p)) in
-    (refl, idle_stopped n b (hushed_run o n b a false h e q.1).1 q.2)
-read_hushed o n b a r ns (Err read.Register) h e some p = absurd (clash (sym (hushed_run o n b a true h e (split (byte_frame (write_address a) true) (started o b p)).1).0))
-read_hushed o n b a r ns (Err read.Repeat) h e some p = absurd (clash (sym (hushed_run o n b a true h e (split (byte_frame (write_address a) true) (started o b p)).1).0))
+    absurd (hushed_answered o n b a h e _ (subst (λ ks. Driven Goes (rest o b) ks t) (cond-false (eqb (length ns) 0) [] _ (ne_eqb _ _ some)) p))
+read_hushed o n b a r ns (Err read.Address) h e some p = (refl, hushed_unanswered o n b a h e p)
+read_hushed o n b a r ns (Err read.Register) h e some p = absurd (hushed_answered o n b a h e _ p)
+read_hushed o n b a r ns (Err read.Repeat) h e some p = absurd (hushed_answered o n b a h e _ p)

@@ -1,6 +1,8 @@
+pub mod Byte
 pub mod Runs
 pub mod Joined
 pub mod Fed
 pub mod Law
 pub mod Calls
 pub mod Only
+pub mod Receivers

@@ -1,5 +1,5 @@
 -- Whatever levels come, only whole calls reach the part.
-use Rattle.std.proofs.Common.{◌≡◌, ℕ, ◌+◌, ◌/◌, ◌%◌, ◌<◌, ◌≤◌, Bool, true, false, cond, eqb, ltb, leb, List, [], ◌∷◌, ◌++◌, length, get_or, drop, sym, refl, ap, ◌∙◌}
+use Rattle.std.proofs.Common.{◌≡◌, ℕ, Option, Some, None, ◌+◌, ◌/◌, ◌%◌, ◌<◌, ◌≤◌, Bool, true, false, cond, eqb, ltb, leb, List, [], ◌∷◌, ◌++◌, length, get_or, drop, sym, refl, ap, ◌∙◌}
 use mathlib.Core.Path.{subst⁻¹}
 use Rattle.std.proofs.lemmas.List.{at_drop_more, at_drop_all}
 use Rattle.std.proofs.lemmas.Bool.{and_parts, and_from}
@@ -10,14 +10,13 @@ use Rattle.part.specs.Runs.{ran}
 use Rattle.rig.specs.Meaning.{ring_base, ring_at}
 use Rattle.wire.specs.Changes.{changed}
 use Rattle.wire.specs.declared.change.Change.{Change}
-use Rattle.wire.specs.declared.change.Change.TheVariants.{Start, Stop, Rise, Fall, Quiet}
+use Rattle.wire.specs.declared.change.Change.TheVariants.{Start, Stop, Rise, Fall}
 use Rattle.wire.specs.declared.receiver.Shift.{Shift}
-use Rattle.wire.specs.declared.receiver.Taken.{Taken}
-use Rattle.wire.specs.declared.receiver.Taken.TheVariants.{More, Whole}
 use Rattle.wire.specs.declared.receiver.Next.TheVariants as next
 use Rattle.wire.specs.declared.receiver.Phase.{Phase}
 use Rattle.wire.specs.declared.receiver.Phase.TheVariants.{Idle, Address, Register, Data, Acknowledge, Acknowledged, Send, Sent}
-use Rattle.wire.specs.Receive.{Line, Behind, at_levels, received, reacted, risen, fallen, sent, shifted, bit_taken, Kind, address_byte, register_byte, data_byte, addressed, pointed, written, opened, in_phase, with_behind, wrote, passed, pointing, to_send}
+use Rattle.wire.specs.Lines.{Line, Behind}
+use Rattle.wire.specs.Receive.{at_levels, received, reacted, risen, fallen, sent, completed, shifted, bit_taken, Kind, address_byte, register_byte, data_byte, addressed, pointed, written, opened, in_phase, with_behind, wrote, passed, pointing, to_send}
 use Rattle.wire.specs.Laws.{received_all, from_bus, all_from_bus, OnlyCalls}
 
 same : (p : Model) → OnlyCalls p p
@@ -61,19 +60,17 @@ by_data r n =
     either r.behind.part (leb r.behind.pointer 0x45) (with_behind r (wrote r.behind n) (Acknowledge next.Data)) (in_phase r Idle)
     (write r.behind.pointer n ∷ [], refl, refl) (same r.behind.part)
 
-by_bit : (r : Line) (k : Kind) (t : Taken) → OnlyCalls r.behind.part (bit_taken r k t).behind.part
-by_bit r address_byte (More s) = same r.behind.part
-by_bit r register_byte (More s) = same r.behind.part
-by_bit r data_byte (More s) = same r.behind.part
-by_bit r address_byte (Whole n) = by_address r n
-by_bit r register_byte (Whole n) = by_register r n
-by_bit r data_byte (Whole n) = by_data r n
+by_bit : (r : Line) (k : Kind) (t : Option ℕ) (s : Shift) → OnlyCalls r.behind.part (bit_taken r k t s).behind.part
+by_bit r k None s = same r.behind.part
+by_bit r address_byte (Some n) s = by_address r n
+by_bit r register_byte (Some n) s = by_register r n
+by_bit r data_byte (Some n) s = by_data r n
 
 by_rise : (r : Line) (f : Phase) (b : Bool) → OnlyCalls r.behind.part (risen r f b).behind.part
 by_rise r Idle b = same r.behind.part
-by_rise r (Address s) b = by_bit r address_byte (shifted s b)
-by_rise r (Register s) b = by_bit r register_byte (shifted s b)
-by_rise r (Data s) b = by_bit r data_byte (shifted s b)
+by_rise r (Address s) b = by_bit r address_byte (completed s b) (shifted s b)
+by_rise r (Register s) b = by_bit r register_byte (completed s b) (shifted s b)
+by_rise r (Data s) b = by_bit r data_byte (completed s b) (shifted s b)
 by_rise r (Acknowledge n) b = same r.behind.part
 by_rise r (Acknowledged n) b = same r.behind.part
 by_rise r (Send s) b = same r.behind.part
@@ -98,12 +95,12 @@ by_fall r (Acknowledged next.Send) = by_send r (record { bits = to_send r.behind
 by_fall r (Send s) = by_send r s
 by_fall r Sent = same r.behind.part
 
-by_change : (r : Line) (c : Change) → OnlyCalls r.behind.part (reacted r c).behind.part
-by_change r Start = same r.behind.part
-by_change r Stop = same r.behind.part
-by_change r (Rise b) = by_rise r r.phase b
-by_change r Fall = by_fall r r.phase
-by_change r Quiet = same r.behind.part
+by_change : (r : Line) (c : Option Change) → OnlyCalls r.behind.part (reacted r c).behind.part
+by_change r (Some Start) = same r.behind.part
+by_change r (Some Stop) = same r.behind.part
+by_change r (Some (Rise b)) = by_rise r r.phase b
+by_change r (Some Fall) = by_fall r r.phase
+by_change r None = same r.behind.part
 
 only_one : (r : Line) (l : Levels) → OnlyCalls r.behind.part (received r l).behind.part
 only_one r l = by_change (at_levels r l) (changed r.levels l r.drives)

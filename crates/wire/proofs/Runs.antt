@@ -13,10 +13,3 @@ pub split : {B : Type 0} {R : B → Levels → Bool → B → Type 0} {t : B} (x
 split [] {s = s} p = (s, done, p)
 split (tell l ∷ xs) (told r p) = let q = split xs p in (q.0, told r q.1, q.2)
 split (hear l a ∷ xs) (heard r p) = let q = split xs p in (q.0, heard r q.1, q.2)
-
--- a run seen through a view of the states
-pub seen : {B C : Type 0} (f : B → C) (S : C → Levels → Bool → C → Type 0) {t : B} {ks : List Beat} {s : B}
-    → Driven (λ x l a y. S (f x) l a (f y)) s ks t → Driven S (f s) ks (f t)
-seen f S done = done
-seen f S (told r p) = told r (seen f S p)
-seen f S (heard r p) = heard r (seen f S p)

@@ -11,8 +11,8 @@ use Rattle.part.specs.Model.{Model}
 use Rattle.part.specs.Runs.{ran}
 use Rattle.rig.specs.declared.Refusal.TheVariants.{Silence}
 use Rattle.rig.specs.Meaning.{Call, put as puts, get as gets, block as blocks, Answer, done, byte, bytes, refused, sized, ring_base, answer, next}
-use Rattle.wire.specs.declared.receiver.Receiver.{Receiver}
-use Rattle.wire.specs.Receive.{Line, view, received}
+use Rattle.wire.specs.Lines.{Line}
+use Rattle.wire.specs.Receive.{received}
 use Rattle.wire.specs.Rests.{Receives, rests, meaning_of}
 
 -- ---- any list of levels
@@ -52,16 +52,16 @@ pub record Does (v w : Line) (c : Call) (told : Answer) : Type 0 where
 
 -- a frame that a sender has driven through a receiver at rest, however it ended, is its call and no other
 abbrev pub PutFrames : Type 0
-PutFrames = (s t : Receiver) (a r x : ℕ) (f : Result (Unit {0}) PutFault) → rests (view s) ≡ true → r ≤ 0x45 → x < 256
-    → (128 ≤ a → f ≡ Err put.Address) → Driven Receives s (put_frame a r x f) t → Does (view s) (view t) (puts a r x) (told_as done f)
+PutFrames = (s t : Line) (a r x : ℕ) (f : Result (Unit {0}) PutFault) → rests s ≡ true → r ≤ 0x45 → x < 256
+    → (128 ≤ a → f ≡ Err put.Address) → Driven Receives s (put_frame a r x f) t → Does s t (puts a r x) (told_as done f)
 
 abbrev pub GetFrames : Type 0
-GetFrames = (s t : Receiver) (a r : ℕ) (ns : List ℕ) (f : Result (Unit {0}) ReadFault) → rests (view s) ≡ true → r ≤ 0x45 → length ns ≡ 1 → ((k : ℕ) → slice_index ns k < 256)
-    → (128 ≤ a → f ≡ Err read.Address) → Driven Receives s (read_frame a r ns f) t → Does (view s) (view t) (gets a r) (told_as (byte (slice_index ns 0)) f)
+GetFrames = (s t : Line) (a r : ℕ) (ns : List ℕ) (f : Result (Unit {0}) ReadFault) → rests s ≡ true → r ≤ 0x45 → length ns ≡ 1 → ((k : ℕ) → slice_index ns k < 256)
+    → (128 ≤ a → f ≡ Err read.Address) → Driven Receives s (read_frame a r ns f) t → Does s t (gets a r) (told_as (byte (slice_index ns 0)) f)
 
 abbrev pub BlockFrames : Type 0
-BlockFrames = (s t : Receiver) (a base : ℕ) (ns : List ℕ) (f : Result (Unit {0}) ReadFault) → rests (view s) ≡ true → sized (length ns) ≡ true → ring_base base ≡ true → ((k : ℕ) → slice_index ns k < 256)
-    → (128 ≤ a → f ≡ Err read.Address) → Driven Receives s (read_frame a base ns f) t → Does (view s) (view t) (blocks a base (length ns)) (told_as (bytes ns) f)
+BlockFrames = (s t : Line) (a base : ℕ) (ns : List ℕ) (f : Result (Unit {0}) ReadFault) → rests s ≡ true → sized (length ns) ≡ true → ring_base base ≡ true → ((k : ℕ) → slice_index ns k < 256)
+    → (128 ≤ a → f ≡ Err read.Address) → Driven Receives s (read_frame a base ns f) t → Does s t (blocks a base (length ns)) (told_as (bytes ns) f)
 
 pub record FramesAreCalls : Type 0 where
   pub puts : PutFrames

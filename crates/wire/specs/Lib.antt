@@ -1,5 +1,7 @@
 pub mod Changes
+pub mod Lines
 pub mod Receive
 pub mod Rests
 pub mod Wired
 pub mod Laws
+pub mod Receivers

@@ -1,5 +1,5 @@
 -- What a receiver holds, and what it makes of each pair of levels.
-use Rattle.std.specs.Prelude.{ℕ, ◌+◌, ◌-◌, ◌*◌, ◌/◌, ◌%◌, Bool, true, false, cond, ◌==◌, nat_le, nat_lt}
+use Rattle.std.specs.Prelude.{ℕ, ◌+◌, ◌-◌, ◌*◌, ◌/◌, ◌%◌, Bool, true, false, cond, ◌==◌, nat_le, nat_lt, Option, Some, None}
 use Rattle.bus.specs.declared.levels.Levels.{Levels}
 use Rattle.bus.specs.Frames.{pair}
 use Rattle.samples.specs.History.{byte_at}
@@ -10,30 +10,16 @@ use Rattle.part.specs.Shown.{shown}
 use Rattle.rig.specs.Meaning.{ring_base, ring_at}
 use Rattle.wire.specs.Changes.{changed}
 use Rattle.wire.specs.declared.change.Change.{Change}
-use Rattle.wire.specs.declared.change.Change.TheVariants.{Start, Stop, Rise, Fall, Quiet}
+use Rattle.wire.specs.declared.change.Change.TheVariants.{Start, Stop, Rise, Fall}
 use Rattle.wire.specs.declared.receiver.Shift.{Shift}
-use Rattle.wire.specs.declared.receiver.Taken.{Taken}
-use Rattle.wire.specs.declared.receiver.Taken.TheVariants.{More, Whole}
 use Rattle.wire.specs.declared.receiver.Next.{Next}
 use Rattle.wire.specs.declared.receiver.Next.TheVariants as next
 use Rattle.wire.specs.declared.receiver.Phase.{Phase}
 use Rattle.wire.specs.declared.receiver.Phase.TheVariants.{Idle, Address, Register, Data, Acknowledge, Acknowledged, Send, Sent}
-use Rattle.wire.specs.declared.receiver.Receiver.{Receiver}
+use Rattle.wire.specs.declared.receiver.Receiver.TheInside.{Inside}
+use Rattle.wire.specs.Lines.{Line, Behind}
 
--- what stands behind the bus: the part, the pointer, and how many bytes of a ring this read has sent
-pub record Behind : Type 0 where
-  pub part : Model
-  pub pointer : ℕ
-  pub place : ℕ
-
-pub record Line : Type 0 where
-  pub levels : Levels
-  pub drives : Bool
-  pub phase : Phase
-  pub owed : ℕ
-  pub behind : Behind
-
-abbrev pub view : Receiver → Line
+abbrev pub view : Inside → Line
 view r = record { levels = r.levels; drives = r.drives; phase = r.phase; owed = r.owed; behind = record { part = model r.part; pointer = r.pointer; place = r.place } }
 
 -- on a bus at rest, with the pointer at the first register
@@ -62,8 +48,12 @@ abbrev pub empty : Shift
 empty = record { bits = 0; count = 0 }
 
 -- a byte is whole at its eighth bit
-abbrev pub shifted : Shift → Bool → Taken
-shifted s b = cond (nat_lt s.count 7) (More (record { bits = s.bits % 128 * 2 + bit b; count = s.count + 1 })) (Whole (s.bits % 128 * 2 + bit b))
+abbrev pub completed : Shift → Bool → Option ℕ
+completed s b = cond (nat_lt s.count 7) None (Some (s.bits % 128 * 2 + bit b))
+
+-- and then the next one begins
+abbrev pub shifted : Shift → Bool → Shift
+shifted s b = cond (nat_lt s.count 7) (record { bits = s.bits % 128 * 2 + bit b; count = s.count + 1 }) empty
 
 -- ---- an address byte: acknowledged at the part's address, unless a silence is owed
 
@@ -154,15 +144,16 @@ whole r address_byte n = addressed r n
 whole r register_byte n = pointed r n
 whole r data_byte n = written r n
 
-abbrev pub bit_taken : Line → Kind → Taken → Line
-bit_taken r k (More s) = in_phase r (taking_phase k s)
-bit_taken r k (Whole n) = whole r k n
+-- by the byte that is whole with a bit, and the bits that are in after it
+abbrev pub bit_taken : Line → Kind → Option ℕ → Shift → Line
+bit_taken r k None s = in_phase r (taking_phase k s)
+bit_taken r k (Some n) s = whole r k n
 
 abbrev pub risen : Line → Phase → Bool → Line
 risen r Idle b = r
-risen r (Address s) b = bit_taken r address_byte (shifted s b)
-risen r (Register s) b = bit_taken r register_byte (shifted s b)
-risen r (Data s) b = bit_taken r data_byte (shifted s b)
+risen r (Address s) b = bit_taken r address_byte (completed s b) (shifted s b)
+risen r (Register s) b = bit_taken r register_byte (completed s b) (shifted s b)
+risen r (Data s) b = bit_taken r data_byte (completed s b) (shifted s b)
 risen r (Acknowledge n) b = r
 risen r (Acknowledged n) b = r
 risen r (Send s) b = r
@@ -178,12 +169,12 @@ fallen r (Acknowledged n) = begun r n
 fallen r (Send s) = sent r s
 fallen r Sent = r
 
-abbrev pub reacted : Line → Change → Line
-reacted r Start = driving r true (Address empty)
-reacted r Stop = driving r true Idle
-reacted r (Rise b) = risen r r.phase b
-reacted r Fall = fallen r r.phase
-reacted r Quiet = r
+abbrev pub reacted : Line → Option Change → Line
+reacted r (Some Start) = driving r true (Address empty)
+reacted r (Some Stop) = driving r true Idle
+reacted r (Some (Rise b)) = risen r r.phase b
+reacted r (Some Fall) = fallen r r.phase
+reacted r None = r
 
 abbrev pub received : Line → Levels → Line
 received r l = reacted (at_levels r l) (changed r.levels l r.drives)

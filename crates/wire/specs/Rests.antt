@@ -1,5 +1,5 @@
 -- A receiver as a bus, a receiver at rest, and what it means as a rig.
-use Rattle.std.specs.Prelude.{◌≡◌, ℕ, Bool, true, false, ◌&&◌, Ok, Err, Result}
+use Rattle.std.specs.Prelude.{◌≡◌, ◌<◌, ℕ, Bool, true, false, ◌&&◌, Ok, Err, Result}
 use Rattle.bus.specs.declared.levels.Levels.{Levels}
 use Rattle.bus.specs.Frames.{pair}
 use Rattle.rig.specs.declared.Refusal.{Refusal}
@@ -7,16 +7,17 @@ use Rattle.rig.specs.declared.Refusal.TheVariants.{Silence}
 use Rattle.rig.specs.Meaning.{Meaning}
 use Rattle.wire.specs.declared.receiver.Phase.{Phase}
 use Rattle.wire.specs.declared.receiver.Phase.TheVariants.{Idle, Address, Register, Data, Acknowledge, Acknowledged, Send, Sent}
-use Rattle.wire.specs.declared.receiver.Receiver.{Receiver}
-use Rattle.wire.specs.Receive.{Line, Behind, view, received}
+use Rattle.wire.specs.Lines.{Line, Behind}
+use Rattle.wire.specs.Receive.{received, to_send}
 
--- a pair of levels is taken, and SDA answered
+-- a pair of levels is taken, and SDA answered; what is to be sent is a byte
 pub record Goes (r : Line) (l : Levels) (a : Bool) (s : Line) : Type 0 where
   pub goes : s ≡ received r l
   pub says : a ≡ s.drives
+  pub fits : to_send s.behind < 256
 
-abbrev pub Receives : Receiver → Levels → Bool → Receiver → Type 0
-Receives r l a s = Goes (view r) l a (view s)
+abbrev pub Receives : Line → Levels → Bool → Line → Type 0
+Receives = Goes
 
 -- both wires high, no pull, and nothing under way
 abbrev pub rest : ℕ → Behind → Line

@@ -1,8 +1,7 @@
 -- What a wire rig means.
 use Rattle.rig.specs.Meaning.{Meaning}
 use Rattle.wire.specs.declared.wire_rig.Wire.{Wire}
-use Rattle.wire.specs.Receive.{view}
 use Rattle.wire.specs.Rests.{meaning_of}
 
 abbrev pub wire_meaning : Wire → Meaning
-wire_meaning w = meaning_of (view w.receiver)
+wire_meaning w = meaning_of w.receiver

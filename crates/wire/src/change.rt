@@ -5,7 +5,7 @@ ghost use Rattle.wire.specs.Changes.{changed};
 use bus::levels::Levels;
 
 /// A change that a receiver acts on.
-#[derive(Clone, Copy, PartialEq, Eq)]
+#[derive(Clone, Copy, PartialEq, Eq, Debug)]
 pub enum Change {
     /// SDA falls with SCL high.
     Start,
@@ -15,24 +15,23 @@ pub enum Change {
     Rise(bool),
     /// SCL falls; the receiver's pull may change.
     Fall,
-    Quiet,
 }
 
 impl Change {
-    /// The change while the receiver drives SDA to `drives`: SDA on the bus is low if either end pulls.
-    pub fn between(was: Levels, is: Levels, drives: bool) -> Change
+    /// The change, if any, while the receiver drives SDA to `drives`: SDA on the bus is low if either end pulls.
+    pub fn between(was: Levels, is: Levels, drives: bool) -> Option<Change>
         ensures { result ≡ changed was is drives }
     {
         let before = drives && was.sda;
         let after = drives && is.sda;
         match (was.scl, is.scl) {
-            (false, true) => Change::Rise(after),
-            (true, false) => Change::Fall,
-            (false, false) => Change::Quiet,
+            (false, true) => Some(Change::Rise(after)),
+            (true, false) => Some(Change::Fall),
+            (false, false) => None,
             (true, true) => match (before, after) {
-                (true, false) => Change::Start,
-                (false, true) => Change::Stop,
-                _ => Change::Quiet,
+                (true, false) => Some(Change::Start),
+                (false, true) => Some(Change::Stop),
+                _ => None,
             },
         }
     }

@@ -1,7 +1,7 @@
 //! The receiver: the part's end of the bus.
-ghost use Rattle.std.specs.Prelude.{◌≡◌, ◌<◌};
+ghost use Rattle.std.specs.Prelude.{◌≡◌, ◌<◌, true, Some};
 ghost use Rattle.part.specs.Model.{powered};
-ghost use Rattle.wire.specs.Receive.{shifted, view, resting, addressed, pointed, written, to_send, next_pointer, next_place, opened, sent, begun, received, happened};
+ghost use Rattle.wire.specs.Receive.{completed, shifted, resting, addressed, pointed, written, to_send, next_pointer, driving, opened, sent, begun, reacted, received, happened};
 ghost use Rattle.wire.specs.Laws.{received_all, OnlyCalls};
 ghost use Rattle.wire.specs.Rests.{Receives};
 ghost use Rattle.part.specs.Events.{tick as ticks, pin as pins, trip as trips};
@@ -16,24 +16,20 @@ use registers::causes::Trip;
 use registers::pins::{Level, Pins};
 use registers::register;
 use rig::ring_at;
+use samples::place;
 use samples::sample::Sample;
+use std::marker::Model;
+use std::mem;
 
 /// Bits of a byte, the most significant first: those that are in, or those still to go out at the top.
-#[derive(Clone, Copy, PartialEq, Eq)]
+#[derive(Clone, Copy, PartialEq, Eq, Debug)]
 pub struct Shift {
     bits: u8,
     count: u8,
 }
 
-/// What a bit makes of a byte that is coming in.
-#[derive(Clone, Copy)]
-enum Taken {
-    More(Shift),
-    Whole(u8),
-}
-
 /// What follows an acknowledge.
-#[derive(Clone, Copy, PartialEq, Eq)]
+#[derive(Clone, Copy, PartialEq, Eq, Debug)]
 pub enum Next {
     Register,
     Data,
@@ -41,7 +37,7 @@ pub enum Next {
 }
 
 /// What the receiver waits for.
-#[derive(Clone, Copy, PartialEq, Eq)]
+#[derive(Clone, Copy, PartialEq, Eq, Debug)]
 pub enum Phase {
     /// A START.
     Idle,
@@ -72,61 +68,70 @@ pub struct Receiver {
     /// The register, or the ring base, that the next byte is for.
     pointer: u8,
     /// How many bytes of a ring this read has sent, round at a hundred.
-    place: u8,
+    place: usize,
     part: Part,
+}
+
+impl Model for Receiver {
+    ghost use Rattle.wire.specs.Lines.{Line};
+
+    ghost Value = { Line };
+
+    ghost use Rattle.wire.specs.Receive.{view as line};
+
+    ghost view = { line };
 }
 
 impl Shift {
     const EMPTY: Shift = Shift { bits: 0, count: 0 };
 
-    fn take(self, bit: bool) -> Taken
-        ensures { result ≡ shifted self bit }
+    /// Takes a bit in. With the eighth the byte is whole, and the next one begins.
+    fn take(&mut self, bit: bool) -> Option<u8>
+        ensures byte { result ≡ completed self.old bit }
+        ensures after { self.new ≡ shifted self.old bit }
     {
         let bits = self.bits % 128 * 2 + u8::from(bit);
         if self.count < 7 {
-            Taken::More(Shift {
+            *self = Shift {
                 bits,
                 count: self.count + 1,
-            })
+            };
+            None
         } else {
-            Taken::Whole(bits)
+            *self = Shift::EMPTY;
+            Some(bits)
         }
     }
 }
 
-/// The last place of a hundred, after which a readout repeats whatever its resolution.
-const LAST_PLACE: u8 = 99;
+/// The bytes after which a readout repeats, whatever its resolution.
+const READOUT: usize = 100;
 
 /// The pointer after a byte: on to the next register, from the last one to the first; it rests on a ring base.
 fn after_byte(pointer: u8) -> u8
     ensures { result ≡ next_pointer pointer }
 {
-    if pointer < register::LED_STATE {
-        pointer + 1
-    } else if pointer == register::LED_STATE {
-        0
-    } else {
-        pointer
+    match pointer {
+        ..register::LED_STATE => pointer + 1,
+        register::LED_STATE => 0,
+        _ => pointer,
     }
 }
 
 impl Receiver {
     /// A part of its own that powers up with these pins, on a bus at rest, and owes nothing.
     pub fn power_up(pins: Pins) -> Receiver
-        ensures { view result ≡ resting (powered pins) 0 }
+        ensures { result ≡ resting (powered pins) 0 }
     {
         Receiver::new(pins, 0)
     }
 
     /// A part that powers up with these pins and owes silences, on a bus at rest.
     pub fn new(pins: Pins, hold_off: u8) -> Receiver
-        ensures { view result ≡ resting (powered pins) hold_off }
+        ensures { result ≡ resting (powered pins) hold_off }
     {
         Receiver {
-            levels: Levels {
-                scl: true,
-                sda: true,
-            },
+            levels: Levels::REST,
             drives: true,
             phase: Phase::Idle,
             owed: hold_off,
@@ -138,7 +143,7 @@ impl Receiver {
 
     /// The eighth bit of an address byte is in.
     fn address_byte(&mut self, byte: u8)
-        ensures { view self.new ≡ addressed (view self.old) byte }
+        ensures { self.new ≡ addressed self.old byte }
     {
         self.phase = Phase::Idle;
         if byte / 2 == self.part.address() {
@@ -154,7 +159,7 @@ impl Receiver {
 
     /// A read begins: at a ring base it stops that ring.
     fn open_read(&mut self)
-        ensures { view self.new ≡ opened (view self.old) }
+        ensures { self.new ≡ opened self.old }
     {
         if let Some(signal) = ring_at(self.pointer) {
             self.part.block(signal, &mut []);
@@ -165,7 +170,7 @@ impl Receiver {
 
     /// The eighth bit of a register byte is in.
     fn register_byte(&mut self, byte: u8)
-        ensures { view self.new ≡ pointed (view self.old) byte }
+        ensures { self.new ≡ pointed self.old byte }
     {
         if byte <= register::CBUF_BA_I {
             self.pointer = byte;
@@ -177,7 +182,7 @@ impl Receiver {
 
     /// The eighth bit of a data byte is in: it counts.
     fn data_byte(&mut self, byte: u8)
-        ensures { view self.new ≡ written (view self.old) byte }
+        ensures { self.new ≡ written self.old byte }
     {
         if self.pointer <= register::LED_STATE {
             self.part.write(self.pointer, byte);
@@ -190,17 +195,25 @@ impl Receiver {
 
     /// The byte that the pointer shows: a register, or a ring at its place.
     fn byte_to_send(&self) -> u8
-        ensures { result ≡ to_send (view self.now).behind }
+        ensures { result ≡ to_send self.now.behind }
     {
         match ring_at(self.pointer) {
-            Some(signal) => self.part.block_byte(signal, self.place as usize),
+            Some(signal) => self.part.block_byte(signal, self.place),
             None => self.part.register(self.pointer).unwrap_or(0),
         }
     }
 
+    /// SDA is left to the master, and the receiver waits.
+    fn release(&mut self, phase: Phase)
+        ensures { self.new ≡ driving self.old true phase }
+    {
+        self.drives = true;
+        self.phase = phase;
+    }
+
     /// As SCL falls: the next bit goes out, or SDA is left to the master. With its eighth bit a byte counts as read.
     fn send(&mut self, shift: Shift)
-        ensures { view self.new ≡ sent (view self.old) shift }
+        ensures { self.new ≡ sent self.old shift }
     {
         if shift.count < 8 {
             self.drives = shift.bits > 127;
@@ -210,31 +223,20 @@ impl Receiver {
             });
             if shift.count == 7 {
                 self.pointer = after_byte(self.pointer);
-                self.place = if self.place < LAST_PLACE {
-                    self.place + 1
-                } else {
-                    0
-                };
+                self.place = place::next(self.place, READOUT);
             }
         } else {
-            self.drives = true;
-            self.phase = Phase::Sent;
+            self.release(Phase::Sent);
         }
     }
 
     /// As SCL falls after an acknowledge: the next byte begins.
     fn begin(&mut self, next: Next)
-        ensures { view self.new ≡ begun (view self.old) next }
+        ensures { self.new ≡ begun self.old next }
     {
         match next {
-            Next::Register => {
-                self.drives = true;
-                self.phase = Phase::Register(Shift::EMPTY);
-            }
-            Next::Data => {
-                self.drives = true;
-                self.phase = Phase::Data(Shift::EMPTY);
-            }
+            Next::Register => self.release(Phase::Register(Shift::EMPTY)),
+            Next::Data => self.release(Phase::Data(Shift::EMPTY)),
             Next::Send => {
                 let bits = self.byte_to_send();
                 self.send(Shift { bits, count: 0 });
@@ -244,32 +246,36 @@ impl Receiver {
 
     /// Takes one pair of levels, and answers the SDA that the receiver drives.
     pub fn receive(&mut self, levels: Levels) -> bool
-        ensures after { view self.new ≡ received (view self.old) levels }
-        ensures sda { result ≡ (received (view self.old) levels).drives }
+        ensures after { self.new ≡ received self.old levels }
+        ensures sda { result ≡ (received self.old levels).drives }
+        ensures byte { to_send self.new.behind < 256 }
     {
-        let change = Change::between(self.levels, levels, self.drives);
-        self.levels = levels;
+        let was = mem::replace(&mut self.levels, levels);
+        if let Some(change) = Change::between(was, levels, self.drives) {
+            self.react(change);
+        }
+        self.drives
+    }
+
+    /// What a change comes to, by the phase that it meets.
+    fn react(&mut self, change: Change)
+        ensures { self.new ≡ reacted self.old (Some change) }
+    {
         match (self.phase, change) {
-            (_, Change::Quiet) => {}
-            (_, Change::Start) => {
-                self.drives = true;
-                self.phase = Phase::Address(Shift::EMPTY);
-            }
-            (_, Change::Stop) => {
-                self.drives = true;
-                self.phase = Phase::Idle;
-            }
-            (Phase::Address(shift), Change::Rise(bit)) => match shift.take(bit) {
-                Taken::More(shift) => self.phase = Phase::Address(shift),
-                Taken::Whole(byte) => self.address_byte(byte),
+            (_, Change::Start) => self.release(Phase::Address(Shift::EMPTY)),
+            (_, Change::Stop) => self.release(Phase::Idle),
+            // Three arms: one helper for them would take the phase and the handler as closures, and read no plainer.
+            (Phase::Address(mut shift), Change::Rise(bit)) => match shift.take(bit) {
+                Some(byte) => self.address_byte(byte),
+                None => self.phase = Phase::Address(shift),
             },
-            (Phase::Register(shift), Change::Rise(bit)) => match shift.take(bit) {
-                Taken::More(shift) => self.phase = Phase::Register(shift),
-                Taken::Whole(byte) => self.register_byte(byte),
+            (Phase::Register(mut shift), Change::Rise(bit)) => match shift.take(bit) {
+                Some(byte) => self.register_byte(byte),
+                None => self.phase = Phase::Register(shift),
             },
-            (Phase::Data(shift), Change::Rise(bit)) => match shift.take(bit) {
-                Taken::More(shift) => self.phase = Phase::Data(shift),
-                Taken::Whole(byte) => self.data_byte(byte),
+            (Phase::Data(mut shift), Change::Rise(bit)) => match shift.take(bit) {
+                Some(byte) => self.data_byte(byte),
+                None => self.phase = Phase::Data(shift),
             },
             (Phase::Sent, Change::Rise(bit)) => {
                 self.phase = if bit {
@@ -286,13 +292,12 @@ impl Receiver {
             (Phase::Send(shift), Change::Fall) => self.send(shift),
             _ => {}
         }
-        self.drives
     }
 
     /// Takes any list of pairs, one after another.
     pub fn receive_all(&mut self, levels: &[Levels])
-        ensures after { view self.new ≡ received_all (view self.old) levels.now }
-        ensures only { OnlyCalls (view self.old).behind.part (view self.new).behind.part }
+        ensures after { self.new ≡ received_all self.old levels.now }
+        ensures only { OnlyCalls self.old.behind.part self.new.behind.part }
     {
         for pair in levels {
             self.receive(*pair);
@@ -301,28 +306,28 @@ impl Receiver {
 
     /// A tick of the part; the bus stays as it is.
     pub fn tick(&mut self, current: Sample, voltage: Sample)
-        ensures { view self.new ≡ happened (view self.old) (ticks current.value voltage.value) }
+        ensures { self.new ≡ happened self.old (ticks current.value voltage.value) }
     {
         self.part.tick(current, voltage);
     }
 
     /// An input pin of the part goes to a level.
     pub fn pin(&mut self, pin: Pin, level: Level)
-        ensures { view self.new ≡ happened (view self.old) (pins pin level) }
+        ensures { self.new ≡ happened self.old (pins pin level) }
     {
         self.part.pin(pin, level);
     }
 
     /// The breaker trips.
     pub fn trip(&mut self, trip: Trip)
-        ensures { view self.new ≡ happened (view self.old) (trips trip) }
+        ensures { self.new ≡ happened self.old (trips trip) }
     {
         self.part.trip(trip);
     }
 
     /// The levels of the part's output pins.
     pub fn outputs(&self) -> Outputs
-        ensures { result ≡ outputs_of (view self.now).behind.part }
+        ensures { result ≡ outputs_of self.now.behind.part }
     {
         self.part.outputs()
     }

@@ -1,7 +1,6 @@
 //! The wire rig: a master and a receiver, with nothing but levels between them.
 ghost use Rattle.std.specs.Prelude.{◌≡◌, true};
 ghost use Rattle.wire.specs.Rests.{rests as at_rest};
-ghost use Rattle.wire.specs.Receive.{view};
 
 mod calls;
 
@@ -11,5 +10,5 @@ use crate::receiver::Receiver;
 #[derive(Drop)]
 pub struct Wire {
     receiver: Receiver,
-    ghost rests: { at_rest (view receiver) ≡ true },
+    ghost rests: { at_rest receiver ≡ true },
 }

@@ -1,12 +1,13 @@
 //! What the bytes of the settings say, and what a write makes of them.
-ghost use Rattle.std.specs.Prelude.{◌≡◌, ◌+◌, ◌*◌, ◌%◌, ◌<◌};
+ghost use Rattle.std.specs.Prelude.{◌≡◌, ◌+◌, ◌*◌, ◌%◌};
 ghost use Rattle.registers.specs.Settings.{range_bits, enable_bits, first_bytes, written, ResetsWithin};
-ghost use Rattle.registers.specs.Questions.{setting, bit, run_weight, peak_weight, runs, resolution, resets, holds, en1, en2, threshold, deglitches, stop_delay, good_delay};
+ghost use Rattle.registers.specs.Questions.{setting, runs, resolution, resets, holds, en1, en2, threshold, deglitches, stop_delay, good_delay};
 
+use crate::bits::{EN1, EN2, bit, is_set, peak_bit, run_bit};
 use crate::causes::Compare;
 use crate::pins::{Level, Pins, Strap};
 use crate::settings::Settings;
-use crate::{register, table};
+use crate::{bits, register, table};
 use samples::ring::Resolution;
 use samples::signal::Signal;
 
@@ -15,10 +16,6 @@ const RANGE_25_MV: u8 = 0b10;
 const RANGE_50_MV: u8 = 0b01;
 
 const RANGE_100_MV: u8 = 0b00;
-
-const EN1: u8 = 0b01;
-
-const EN2: u8 = 0b10;
 
 const DEGLITCH_WARNING: u8 = 0b01;
 
@@ -42,37 +39,7 @@ fn range_bits(irng: Strap) -> u8
 fn enable_bits(hwen: Level) -> u8
     ensures { result ≡ enable_bits hwen }
 {
-    if hwen.is_high() { EN2 } else { 0 }
-}
-
-/// The bit of this weight is set; no bit has the weight 0.
-fn is_set(byte: u8, weight: u8) -> bool
-    requires { 0 < weight }
-    ensures { result ≡ bit weight byte }
-{
-    byte / weight % 2 == 1
-}
-
-/// The signal's bit among the run bits and among the resolution bits.
-fn run_bit(signal: Signal) -> u8
-    ensures value { result ≡ run_weight signal }
-    ensures bound { 0 < result }
-{
-    match signal {
-        Signal::Current => 0b10,
-        Signal::Voltage => 0b01,
-    }
-}
-
-/// The signal's bit among the reset bits and among the hold bits: the other way round.
-fn peak_bit(signal: Signal) -> u8
-    ensures value { result ≡ peak_weight signal }
-    ensures bound { 0 < result }
-{
-    match signal {
-        Signal::Current => 0b01,
-        Signal::Voltage => 0b10,
-    }
+    bit(hwen.is_high(), EN2)
 }
 
 impl Settings {
@@ -88,6 +55,7 @@ impl Settings {
     }
 
     /// The byte of a register; 0 past the last one.
+    #[tactic(auto, unfolding(crate::specs::Questions::setting))]
     pub fn byte(&self, register: u8) -> u8
         ensures { result ≡ setting self.now.bytes register }
     {
@@ -115,14 +83,11 @@ impl Settings {
     pub fn resolution(&self, signal: Signal) -> Resolution
         ensures { result ≡ resolution self.now.bytes signal }
     {
-        if is_set(self.byte(register::CBUFRD_HIBYONLY), run_bit(signal)) {
-            Resolution::Short
-        } else {
-            Resolution::Full
-        }
+        bits::resolution(self.byte(register::CBUFRD_HIBYONLY), signal)
     }
 
     /// The signal's reset bit: its extremes stay reset.
+    // A question for each bit, here and below, as the part asks them: one with a register and a weight would ask for both.
     pub fn resets(&self, signal: Signal) -> bool
         ensures { result ≡ resets self.now.bytes signal }
     {
@@ -154,32 +119,28 @@ impl Settings {
     pub fn threshold(&self, compare: Compare) -> u16
         ensures { result ≡ threshold self.now.bytes compare }
     {
-        match compare {
-            Compare::Uv1 => self.pair(register::UV1TH_MSB, register::UV1TH_LSB),
-            Compare::Uv2 => self.pair(register::UV2TH_MSB, register::UV2TH_LSB),
-            Compare::Ov1 => self.pair(register::OV1THR_MSB, register::OV1THR_LSB),
-            Compare::Ov2 => self.pair(register::OV2THR_MSB, register::OV2THR_LSB),
-            Compare::Oi => self.pair(register::OITHR_MSB, register::OITHR_LSB),
-        }
-    }
-
-    fn pair(&self, high: u8, low: u8) -> u16
-        ensures { result ≡ setting self.now.bytes high * 4 + setting self.now.bytes low % 4 }
-    {
-        self.byte(high) as u16 * 4 + self.byte(low) as u16 % 4
+        let (high, low) = match compare {
+            Compare::Uv1 => (register::UV1TH_MSB, register::UV1TH_LSB),
+            Compare::Uv2 => (register::UV2TH_MSB, register::UV2TH_LSB),
+            Compare::Ov1 => (register::OV1THR_MSB, register::OV1THR_LSB),
+            Compare::Ov2 => (register::OV2THR_MSB, register::OV2THR_LSB),
+            Compare::Oi => (register::OITHR_MSB, register::OITHR_LSB),
+        };
+        bits::ten_bits(self.byte(high), self.byte(low))
     }
 
     /// The deglitch bit of a compare: it acts only at its second positive tick in a row.
     pub fn deglitches(&self, compare: Compare) -> bool
         ensures { result ≡ deglitches self.now.bytes compare }
     {
-        match compare {
-            Compare::Uv1 => is_set(self.byte(register::DGL_UV), DEGLITCH_WARNING),
-            Compare::Uv2 => is_set(self.byte(register::DGL_UV), DEGLITCH_CRITICAL),
-            Compare::Ov1 => is_set(self.byte(register::DGL_OV), DEGLITCH_WARNING),
-            Compare::Ov2 => is_set(self.byte(register::DGL_OV), DEGLITCH_CRITICAL),
-            Compare::Oi => is_set(self.byte(register::DGL_I), DEGLITCH_WARNING),
-        }
+        let (register, weight) = match compare {
+            Compare::Uv1 => (register::DGL_UV, DEGLITCH_WARNING),
+            Compare::Uv2 => (register::DGL_UV, DEGLITCH_CRITICAL),
+            Compare::Ov1 => (register::DGL_OV, DEGLITCH_WARNING),
+            Compare::Ov2 => (register::DGL_OV, DEGLITCH_CRITICAL),
+            Compare::Oi => (register::DGL_I, DEGLITCH_WARNING),
+        };
+        is_set(self.byte(register), weight)
     }
 
     /// How many ticks a ring goes on after the channel has turned off.
@@ -187,11 +148,7 @@ impl Settings {
         ensures { result ≡ stop_delay self.now.bytes }
     {
         let delay = self.byte(register::CBUF_DLY_STOP);
-        if delay > LONGEST_DELAY {
-            LONGEST_DELAY
-        } else {
-            delay
-        }
+        delay.min(LONGEST_DELAY)
     }
 
     /// How many good ticks in a row make power-good.

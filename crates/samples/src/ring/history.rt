@@ -5,6 +5,7 @@ ghost use Rattle.samples.specs.History.{content, pushed, last_fifty, values, rea
 use super::{LENGTH, Resolution, Ring};
 use crate::place;
 use crate::sample::Sample;
+use std::array;
 
 impl Ring {
     /// A ring of fifty zeros.
@@ -42,11 +43,7 @@ impl Ring {
     pub fn oldest_first(&self) -> [Sample; LENGTH]
         ensures { values result ≡ content self.now }
     {
-        let mut content = [Sample::zero(); LENGTH];
-        for k in 0..LENGTH {
-            content[k] = self.samples[place::advance(self.oldest, k, LENGTH)];
-        }
-        content
+        array::from_fn(|k| self.samples[place::advance(self.oldest, k, LENGTH)])
     }
 
     /// The readout fills the slice: the next-to-oldest sample first, then onward, the oldest last; the fifty repeat.

@@ -2,6 +2,7 @@
 ghost use Rattle.std.specs.Prelude.{◌≡◌};
 ghost use Rattle.part.specs.Model.{powered};
 ghost use Rattle.wire.specs.Laws.{FramesAreCalls};
+ghost use Rattle.wire.specs.Receivers.{FramesOfReceivers};
 ghost use Rattle.wire.specs.Rests.{or_silence};
 ghost use Rattle.wire.specs.Wired.{wire_meaning};
 
@@ -12,17 +13,14 @@ use part::Outputs;
 use part::events::Pin;
 use registers::causes::Trip;
 use registers::pins::{Level, Pins};
-use registers::register;
-use rig::{LONGEST_BLOCK, Refusal, Rig, ring_at, samples_of};
+use rig::{Refusal, Rig, check_block, check_register, samples_of};
 
 /// A missing acknowledge, of whichever byte, is silence.
+// No `From`: the faults are the bus's and the refusal is the rig's, and an impl must name a type of its own crate.
 fn acknowledged<F: Drop>(sent: Result<(), F>) -> Result<(), Refusal>
     ensures { result ≡ or_silence sent }
 {
-    match sent {
-        Ok(()) => Ok(()),
-        Err(_) => Err(Refusal::Silence),
-    }
+    sent.map_err(|_| Refusal::Silence)
 }
 
 impl Wire {
@@ -30,6 +28,7 @@ impl Wire {
     pub fn new(pins: Pins, hold_off: u8) -> Wire
         ensures meaning { wire_meaning result ≡ record { part = powered pins; owed = hold_off } }
         ensures frames { FramesAreCalls }
+        ensures receivers { FramesOfReceivers }
     {
         Wire {
             receiver: Receiver::new(pins, hold_off),
@@ -59,29 +58,21 @@ impl Rig for Wire {
     }
 
     fn put(&mut self, address: u8, register: u8, byte: u8) -> Result<(), Refusal> {
-        if register as usize >= register::COUNT {
-            return Err(Refusal::Register);
-        }
+        check_register(register)?;
+        // silence is passed up by `?`, a rule of the project, here and in `block`
         acknowledged(sender::put(&mut self.receiver, address, register, byte))?;
         Ok(())
     }
 
     fn get(&mut self, address: u8, register: u8) -> Result<u8, Refusal> {
-        if register as usize >= register::COUNT {
-            return Err(Refusal::Register);
-        }
+        check_register(register)?;
         let mut byte = [0];
         acknowledged(sender::read(&mut self.receiver, address, register, &mut byte))?;
         Ok(byte[0])
     }
 
     fn block(&mut self, address: u8, base: u8, out: &mut [u8]) -> Result<(), Refusal> {
-        if out.is_empty() || out.len() > LONGEST_BLOCK {
-            return Err(Refusal::Length);
-        }
-        if ring_at(base).is_none() {
-            return Err(Refusal::Register);
-        }
+        check_block(base, out.len())?;
         acknowledged(sender::read(&mut self.receiver, address, base, out))?;
         Ok(())
     }

@@ -1,17 +1,25 @@
-use Rattle.std.proofs.Common.{◌≡◌, add-one, arith}
+use Rattle.std.proofs.Common.{◌≡◌, ◌+◌, ◌-◌, add-one, arith}
 use Rattle.bus.specs.Frames.{done, bits_frame}
 use Rattle.bus.proofs.Runs.{then, unheard, ninth}
 use Rattle.bus.proofs.sender.send_byte.Goals as goal
 
-pub loop-i-init : goal.loop-i-init
+pub loop-bit-init : goal.loop-bit-init
 unfolding bits_frame
-loop-i-init g c = done
+loop-bit-init g c = done
 
-pub loop-i-preserved : goal.loop-i-preserved
+pub loop-bit-preserved : goal.loop-bit-preserved
 unfolding bits_frame
-loop-i-preserved g c = rw add-one (then c.loop-i.invariant (unheard c.send_bit.ensures))
+loop-bit-preserved g c =
+    let next : 8 - (c.loop-bit.bit - 1) ≡ 8 - c.loop-bit.bit + 1 = omega arith in
+    let place : 7 - (8 - c.loop-bit.bit) ≡ c.loop-bit.bit - 1 = omega arith in
+    rw (next, add-one, place) (then c.loop-bit.invariant (unheard c.send_bit.ensures))
 
-pub returns : goal.returns
-returns g c =
-    let e : c.loop-i.i ≡ 8 = omega arith in
-    ninth c.args.byte c.loop-i.i c.send_bit-2.result e c.loop-i.invariant c.send_bit-2.ensures
+pub returns-then-send_bit-clause-run : goal.returns-then-send_bit-clause-run
+returns-then-send_bit-clause-run g c =
+    let e : 8 - c.loop-bit.bit ≡ 8 = omega arith in
+    rw c.if-send_bit.true at (ninth c.args.byte (8 - c.loop-bit.bit) c.send_bit-2.result e c.loop-bit.invariant c.send_bit-2.ensures)
+
+pub returns-else-send_bit-clause-run : goal.returns-else-send_bit-clause-run
+returns-else-send_bit-clause-run g c =
+    let e : 8 - c.loop-bit.bit ≡ 8 = omega arith in
+    rw c.if-send_bit.false at (ninth c.args.byte (8 - c.loop-bit.bit) c.send_bit-2.result e c.loop-bit.invariant c.send_bit-2.ensures)

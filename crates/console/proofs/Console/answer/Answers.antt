@@ -1,21 +1,33 @@
-use Rattle.std.proofs.Common.{ℕ, List, length, ap, ◌∙◌}
-use Rattle.rig.specs.Meaning.{Meaning}
-use Rattle.console.specs.Answering.{line_outcome, next_line, answer_result, answer_left, answer_buffer}
-use Rattle.console.proofs.Lines.{reads_one}
+use Rattle.std.proofs.Common.{◌≡◌, length, ◌∙◌}
+use Rattle.answers.specs.Text.{at_front}
+use Rattle.console.specs.Answering.{line_outcome, result_of, said, next_line, answer_result, answer_left, answer_buffer}
+use Rattle.console.proofs.Lines.{reads_each}
 use Rattle.console.proofs.Console.answer.Goals as goal
 
-pub returns : goal.returns
-returns g c =
-    let m : Meaning = g.R.Rig.meaning c.args.self.now.rig in
-    let a : ℕ = c.args.self.now.address in
-    let n : ℕ = next_line c.args.self.now.line in
-    let before : List ℕ = c.args.out.now in
-    let one = reads_one c.args.line.now c.command.result in
-    record {
-      answers = λ s r. c.answer_spoken.ensures.answers ∙ ap (λ x. answer_result (length before) n (line_outcome m a x)) (one s c.command.ensures r);
-      after = λ s r. c.answer_spoken.ensures.after ∙ ap (answer_left (length before) m a) (one s c.command.ensures r);
-      written = λ s r. c.answer_spoken.ensures.written ∙ ap (λ x. answer_buffer before n (line_outcome m a x)) (one s c.command.ensures r);
-      counted = c.answer_spoken.ensures.counted;
-      address = c.answer_spoken.ensures.address;
-      bound = c.answer_spoken.ensures.bound;
-    }
+pub returns-clause-answers : goal.returns-clause-answers
+returns-clause-answers g c =
+    let sized = rw c.in_ok-out.ensures.ok_part at c.as_mut_array.ensures.cases in
+    let line = c.reply-reply.ensures.line ∙ c.next_line-self.ensures in
+    reads_each c.args.line.now c.command.result c.command.ensures
+    (λ s. c.say.result ≡ answer_result (length c.args.out.now) (next_line c.args.self.now.line) (line_outcome (g.R.Rig.meaning c.args.self.now.rig) c.args.self.now.address s))
+    (rw sized.long (c.say.ensures.answers ∙ (λ i. result_of (line i) (c.reply-reply.ensures.answers i))))
+
+pub returns-clause-after : goal.returns-clause-after
+returns-clause-after g c =
+    let sized = rw c.in_ok-out.ensures.ok_part at c.as_mut_array.ensures.cases in
+    reads_each c.args.line.now c.command.result c.command.ensures
+    (λ s. g.R.Rig.meaning c.reply-reply.new.self.rig ≡ answer_left (length c.args.out.now) (g.R.Rig.meaning c.args.self.now.rig) c.args.self.now.address s)
+    (rw sized.long c.reply-reply.ensures.after)
+
+pub returns-clause-written : goal.returns-clause-written
+returns-clause-written g c =
+    let sized = rw c.in_ok-out.ensures.ok_part at c.as_mut_array.ensures.cases in
+    let line = c.reply-reply.ensures.line ∙ c.next_line-self.ensures in
+    reads_each c.args.line.now c.command.result c.command.ensures
+    (λ s. c.say.new.out ≡ answer_buffer c.args.out.now (next_line c.args.self.now.line) (line_outcome (g.R.Rig.meaning c.args.self.now.rig) c.args.self.now.address s))
+    (rw sized.long (c.say.ensures.written ∙ (λ i. at_front (said (line i) (c.reply-reply.ensures.answers i)) (sized.same i))))
+
+pub returns-clause-counted : goal.returns-clause-counted
+returns-clause-counted g c =
+    let sized = rw c.in_ok-out.ensures.ok_part at c.as_mut_array.ensures.cases in
+    rw sized.long (c.reply-reply.ensures.line ∙ c.next_line-self.ensures)

@@ -1,5 +1,6 @@
-use Rattle.std.proofs.Common.{◌≡◌, ◌<◌, ◌≢◌, length, arith, get_or-set_other, get_or-set_same, rules, below_more}
+use Rattle.std.proofs.Common.{◌≡◌, ◌<◌, length, arith, get_or, rules}
 use Rattle.std.proofs.lemmas.List.{ext_get_or}
+use Rattle.std.proofs.lemmas.List.Edits.{fill_by_more}
 use Rattle.reading.specs.Report.{words}
 use Rattle.reading.proofs.Words.{length_words}
 use Rattle.reading.proofs.parts.write_samples.Goals as goal
@@ -7,9 +8,7 @@ use Rattle.reading.proofs.parts.write_samples.Goals as goal
 pub loop-k-preserved : goal.loop-k-preserved
 loop-k-preserved c =
     let lt : c.loop-k.k < length c.loop-k.out = omega arith in
-    below_more _ _
-    (λ j h. let ne : j ≢ c.loop-k.k = omega arith in rw get_or-set_other (c.loop-k.invariant j h))
-    (rw get_or-set_same c.sample_byte.ensures)
+    rw c.sample_byte.ensures (fill_by_more (λ j. get_or (words c.args.samples.now) j 0) c.loop-k.out c.loop-k.k 0 lt c.loop-k.invariant)
 
 pub returns : goal.returns
 returns c =

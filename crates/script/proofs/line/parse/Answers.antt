@@ -1,16 +1,20 @@
-use Rattle.std.proofs.Common.{arith}
-use Rattle.script.proofs.Fronts.{long_line}
-use Rattle.script.proofs.Lines.{lined, empty_wrong}
-use Rattle.script.proofs.Stands.{said_is_right, one_wrong, wrong_right}
+use Rattle.script.proofs.Stands.{said_is_right, wrong_right}
 use Rattle.script.proofs.line.parse.Goals as goal
 
-pub returns-then-line-gt-LONGEST : goal.returns-then-line-gt-LONGEST
-returns-then-line-gt-LONGEST c = record { read = long_line (omega arith); right = said_is_right; column = one_wrong; apart = wrong_right }
+pub returns-then-line-gt-LONGEST-clause-right : goal.returns-then-line-gt-LONGEST-clause-right
+returns-then-line-gt-LONGEST-clause-right c = said_is_right
 
-pub returns-then-line-eq0 : goal.returns-then-line-eq0
-returns-then-line-eq0 c = record { read = empty_wrong _ c.if-line-eq0.true; right = said_is_right; column = one_wrong; apart = wrong_right }
+pub returns-then-line-gt-LONGEST-clause-apart : goal.returns-then-line-gt-LONGEST-clause-apart
+returns-then-line-gt-LONGEST-clause-apart c = wrong_right
 
-pub returns : goal.returns
-returns c =
-    let read = lined c.args.line.now c.from.result c.split_at.result.1.now (omega arith) c.from.ensures c.split_at.ensures.back (omega arith) c.body.result c.body.ensures in
-    record { read = read; right = said_is_right; column = one_wrong; apart = wrong_right }
+pub returns-in-empty-clause-right : goal.returns-in-empty-clause-right
+returns-in-empty-clause-right c = said_is_right
+
+pub returns-in-empty-clause-apart : goal.returns-in-empty-clause-apart
+returns-in-empty-clause-apart c = wrong_right
+
+pub returns-in-len1-up-clause-right : goal.returns-in-len1-up-clause-right
+returns-in-len1-up-clause-right c = said_is_right
+
+pub returns-in-len1-up-clause-apart : goal.returns-in-len1-up-clause-apart
+returns-in-len1-up-clause-apart c = wrong_right

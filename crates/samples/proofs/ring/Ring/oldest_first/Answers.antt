@@ -1,20 +1,17 @@
-use Rattle.std.proofs.Common.{◌≡◌, length, sym, ◌∙◌, arith, rules}
-use Rattle.std.proofs.lemmas.List.{length-map, length-set}
+use Rattle.std.proofs.Common.{◌≡◌, ◌∙◌, refl, sym, length, get_or, rules}
+use Rattle.std.proofs.lemmas.List.{length-map}
+use Rattle.std.proofs.lemmas.List.FromFn.{fill_by_all}
 use Rattle.samples.specs.History.{content, turned}
-use Rattle.samples.proofs.Rounds.{length_turned, getD_map_turned, filled_more, filled_all}
+use Rattle.samples.proofs.Calls.{made}
+use Rattle.samples.proofs.Rounds.{length_turned, getD_map_turned}
 use Rattle.samples.proofs.ring.Ring.oldest_first.Goals as goal
 
-pub loop-k-preserved : goal.loop-k-preserved
-loop-k-preserved c = (
-  length-set c.loop-k.content c.loop-k.k _ ∙ c.loop-k.invariant.0,
-  (λ _. search rules),
-  filled_more (λ s. s.value) c.loop-k.content (content c.args.self.now) c.loop-k.k _ (search rules)
-      (getD_map_turned (λ s. s.value) c.args.self.now.samples c.args.self.now.oldest c.loop-k.k _ _ (search rules) (search rules) (search rules) c.advance.ensures)
-      c.loop-k.invariant.2,
-)
-
+-- the length of the array behind `self` is known from a call that has read it
 pub returns : goal.returns
 returns c =
-    let fifty : length c.args.self.now.samples ≡ 50 = c.loop-k.invariant.1 (omega arith) in
-    let full : length (content c.args.self.now) ≡ 50 = length-map (turned c.args.self.now.samples c.args.self.now.oldest) (λ s. s.value) ∙ length_turned c.args.self.now.samples c.args.self.now.oldest ∙ fifty in
-    filled_all (λ s. s.value) c.loop-k.content (content c.args.self.now) c.loop-k.k (c.loop-k.invariant.0 ∙ sym full) (search rules) c.loop-k.invariant.2
+    let ring = c.args.self.now in
+    let first = c.from_fn.ensures.items.each.3 in
+    let fifty : length ring.samples ≡ 50 = search rules in
+    let full : length (content ring) ≡ 50 = length-map (turned ring.samples ring.oldest) (λ s. s.value) ∙ length_turned ring.samples ring.oldest ∙ fifty in
+    made _ (λ s. s.value) (λ i. get_or (content ring) i 0) _ _ _ (λ i y q l k. search (rules, getD_map_turned)) 0 c.from_fn.ensures.items
+    ∙ sym (fill_by_all (λ i. get_or (content ring) i 0) (content ring) 50 0 full (λ i l. refl))

@@ -1,14 +1,13 @@
 use Rattle.std.proofs.Common.{◌∙◌, rules}
-use Rattle.wire.specs.Receive.{view}
 use Rattle.wire.proofs.Only.{more_levels, all_levels}
 use Rattle.wire.proofs.receiver.Receiver.receive_all.Goals as goal
 
 pub loop-pair-preserved : goal.loop-pair-preserved
 loop-pair-preserved c =
-    more_levels (view c.loop-pair.self) _ c.args.levels.now c.loop-pair.pair-index _ (search rules) c.receive.ensures.after
+    more_levels c.loop-pair.self _ c.args.levels.now c.loop-pair.pair-index _ (search rules) c.receive.ensures.after
     ∙ c.loop-pair.invariant
 
 pub returns : goal.returns
 returns c =
-    let both = all_levels (view c.args.self.now) (view c.loop-pair.self) c.args.levels.now c.loop-pair.pair-index (search rules) c.loop-pair.invariant in
+    let both = all_levels c.args.self.now c.loop-pair.self c.args.levels.now c.loop-pair.pair-index (search rules) c.loop-pair.invariant in
     record { after = both.0; only = both.1 }

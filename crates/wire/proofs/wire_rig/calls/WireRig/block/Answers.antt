@@ -1,8 +1,7 @@
-use Rattle.std.proofs.Common.{◌≡◌, true, length, sym, ap, ◌∙◌, rules}
+use Rattle.std.proofs.Common.{◌≡◌, true, cond, length, sym, ap, ◌∙◌, rules}
 use Rattle.std.proofs.lemmas.Result.{err_from_is_err_and}
-use Rattle.rig.specs.Meaning.{bytes, refused, block, answer, next, sized, ring_base}
+use Rattle.rig.specs.Meaning.{bytes, refused, block, block_of, answer, next, sized, ring_base}
 use Rattle.rig.specs.Refusals.{told}
-use Rattle.wire.specs.Receive.{view}
 use Rattle.wire.specs.Rests.{meaning_of}
 use Rattle.wire.proofs.Calls.{said_ok, said_err, was_err, block_frames, filled_done, filled_refused}
 use Rattle.wire.proofs.wire_rig.calls.WireRig.block.Goals as goal
@@ -14,15 +13,26 @@ invariant_of-self c =
     let m = block_frames c.args.self.now.receiver c.read.new.bus c.args.address c.args.base c.read.new.into c.read.result c.args.self.now.rests fits ring c.read.ensures.bytes c.read.ensures.unsent c.read.ensures.run in
     record { rests = m.rested }
 
+pub returns-in_err-check_block : goal.returns-in_err-check_block
+returns-in_err-check_block c =
+    let m = meaning_of c.args.self.now.receiver in
+    let no = c.in_err-check_block.ensures m c.args.address in
+    let e = err_from_is_err_and c.from_residual.result c.from_residual.ensures.1 in
+    record {
+      answers = ap (told (λ _. bytes c.args.out.now)) e.1 ∙ ap refused e.2 ∙ sym no.answers;
+      after = sym no.after;
+      filled = sym (ap (λ x. cond x (block_of m.part c.args.base (length c.args.out.now)) c.args.out.now) no.not_accepted);
+    }
+
 pub returns-in_err-acknowledged : goal.returns-in_err-acknowledged
 returns-in_err-acknowledged c =
     let fits : sized (length c.read.new.into) ≡ true = search rules in
     let sized_out : sized (length c.args.out.now) ≡ true = search rules in
     let ring : ring_base c.args.base ≡ true = search rules in
     let same : c.read.new.into ≡ c.args.out.now = c.read.ensures.kept (was_err c.read.result _ c.in_err-acknowledged.ensures) in
-    let v = view c.args.self.now.receiver in
+    let v = c.args.self.now.receiver in
     let m = block_frames c.args.self.now.receiver c.read.new.bus c.args.address c.args.base c.read.new.into c.read.result c.args.self.now.rests fits ring c.read.ensures.bytes c.read.ensures.unsent c.read.ensures.run in
-    let e = err_from_is_err_and c.from_residual.result c.from_residual.ensures.1 in
+    let e = err_from_is_err_and c.from_residual-in_err-acknowledged.result c.from_residual-in_err-acknowledged.ensures.1 in
     let silent : refused c.in_err-acknowledged.field-0.0 ≡ answer (meaning_of v) (block c.args.address c.args.base (length c.args.out.now)) =
     sym (said_err c.read.result (bytes c.read.new.into) _ c.in_err-acknowledged.ensures) ∙ m.answers ∙ ap (λ xs. answer (meaning_of v) (block c.args.address c.args.base (length xs))) same in
     record {
@@ -37,7 +47,7 @@ returns c =
     let sized_out : sized (length c.args.out.now) ≡ true = search rules in
     let ring : ring_base c.args.base ≡ true = search rules in
     let len : length c.read.new.into ≡ length c.args.out.now = search rules in
-    let v = view c.args.self.now.receiver in
+    let v = c.args.self.now.receiver in
     let m = block_frames c.args.self.now.receiver c.read.new.bus c.args.address c.args.base c.read.new.into c.read.result c.args.self.now.rests fits ring c.read.ensures.bytes c.read.ensures.unsent c.read.ensures.run in
     let heard : bytes c.read.new.into ≡ answer (meaning_of v) (block c.args.address c.args.base (length c.args.out.now)) =
     sym (said_ok c.read.result (bytes c.read.new.into) _ c.in_ok-acknowledged.ensures) ∙ m.answers ∙ ap (λ n. answer (meaning_of v) (block c.args.address c.args.base n)) len in

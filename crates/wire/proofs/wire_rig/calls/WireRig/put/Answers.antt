@@ -7,13 +7,13 @@ use Rattle.wire.proofs.wire_rig.calls.WireRig.put.Goals as goal
 
 pub invariant_of-self : goal.invariant_of-self
 invariant_of-self c =
-    let m = put_frames c.args.self.now.receiver c.put.new.bus c.args.address c.args.register c.args.byte c.put.result c.args.self.now.rests (omega arith) (omega arith) c.put.ensures.unsent c.put.ensures.run in
+    let m = put_frames c.args.self.now.receiver c.put.new.bus c.args.address c.args.register c.args.byte c.put.result c.args.self.now.rests (omega (arith, c.in_ok-check_register.ensures)) (omega (arith, c.in_ok-check_register.ensures)) c.put.ensures.unsent c.put.ensures.run in
     record { rests = m.rested }
 
 pub returns-in_err-acknowledged : goal.returns-in_err-acknowledged
 returns-in_err-acknowledged c =
-    let m = put_frames c.args.self.now.receiver c.put.new.bus c.args.address c.args.register c.args.byte c.put.result c.args.self.now.rests (omega arith) (omega arith) c.put.ensures.unsent c.put.ensures.run in
-    let e = err_from_is_err_and c.from_residual.result c.from_residual.ensures.1 in
+    let m = put_frames c.args.self.now.receiver c.put.new.bus c.args.address c.args.register c.args.byte c.put.result c.args.self.now.rests (omega (arith, c.in_ok-check_register.ensures)) (omega (arith, c.in_ok-check_register.ensures)) c.put.ensures.unsent c.put.ensures.run in
+    let e = err_from_is_err_and c.from_residual-in_err-acknowledged.result c.from_residual-in_err-acknowledged.ensures.1 in
     record {
       answers = ap (told (λ _. done)) e.1 ∙ ap refused e.2 ∙ sym (said_err c.put.result done _ c.in_err-acknowledged.ensures) ∙ m.answers;
       after = m.after;
@@ -21,5 +21,5 @@ returns-in_err-acknowledged c =
 
 pub returns : goal.returns
 returns c =
-    let m = put_frames c.args.self.now.receiver c.put.new.bus c.args.address c.args.register c.args.byte c.put.result c.args.self.now.rests (omega arith) (omega arith) c.put.ensures.unsent c.put.ensures.run in
+    let m = put_frames c.args.self.now.receiver c.put.new.bus c.args.address c.args.register c.args.byte c.put.result c.args.self.now.rests (omega (arith, c.in_ok-check_register.ensures)) (omega (arith, c.in_ok-check_register.ensures)) c.put.ensures.unsent c.put.ensures.run in
     record { answers = sym (said_ok c.put.result done _ c.in_ok-acknowledged.ensures) ∙ m.answers; after = m.after }

@@ -1,7 +1,0 @@
-use Rattle.std.proofs.Common.{rules}
-use Rattle.part.specs.Events.{step}
-use Rattle.part.proofs.Part.trip.Goals as goal
-
-pub returns : goal.returns
-unfolding step
-returns c = search rules

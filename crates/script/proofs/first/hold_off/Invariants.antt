@@ -1,5 +1,0 @@
-use Rattle.script.proofs.Opening.{Begun}
-use Rattle.script.proofs.first.hold_off.Given as goal
-
-abbrev pub invariant-loop-i : goal.invariant-loop-i
-invariant-loop-i l = Begun l.digits l.i l.n
