@@ -116,7 +116,7 @@ impl Monitor {
             }
         }
         if stores {
-            self.ring = self.ring.stored(sample);
+            self.ring.store(sample);
         }
         self.state = self.state.ticked();
     }

@@ -18,14 +18,12 @@ impl Ring {
         }
     }
 
-    /// The ring with a sample in the place of the oldest.
-    pub fn stored(self, sample: Sample) -> Ring
-        ensures { content result ≡ pushed (content self) sample.value }
+    /// Stores a sample in the place of the oldest.
+    pub fn store(&mut self, sample: Sample)
+        ensures { content self.new ≡ pushed (content self.old) sample.value }
     {
-        let mut samples = self.samples;
-        samples[self.oldest] = sample;
-        let oldest = place::next(self.oldest, LENGTH);
-        Ring { samples, oldest }
+        self.samples[self.oldest] = sample;
+        self.oldest = place::next(self.oldest, LENGTH);
     }
 
     /// A new ring after a run of stores.
@@ -34,7 +32,7 @@ impl Ring {
     {
         let mut ring = Ring::new();
         for sample in samples {
-            ring = ring.stored(*sample);
+            ring.store(*sample);
         }
         ring
     }

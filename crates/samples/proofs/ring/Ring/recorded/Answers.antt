@@ -5,7 +5,7 @@ use Rattle.samples.proofs.ring.Ring.recorded.Goals as goal
 
 pub loop-sample-preserved : goal.loop-sample-preserved
 loop-sample-preserved c =
-    pushes_more (λ s. s.value) (content c.loop-sample.ring) _ c.args.samples.now c.loop-sample.sample-index c.sample-item.result (search rules) c.sample-item.is c.stored-ring.ensures
+    pushes_more (λ s. s.value) (content c.loop-sample.ring) _ c.args.samples.now c.loop-sample.sample-index c.sample-item.result (search rules) c.sample-item.is c.store.ensures
     ∙ c.loop-sample.invariant
 
 pub returns : goal.returns
