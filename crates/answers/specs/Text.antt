@@ -1,5 +1,5 @@
 -- The text of each answer, and what becomes of a buffer that it is written into.
-use Rattle.std.specs.Prelude.{ℕ, ◌+◌, ◌/◌, ◌%◌, cond, List, [], ◌∷◌, ◌++◌, length, take, drop, Ok, Err, codes, decimal, Result, ◌==◌, nat_lt}
+use Rattle.std.specs.Prelude.{ℕ, ◌+◌, ◌/◌, ◌%◌, cond, List, [], ◌∷◌, ◌++◌, length, drop, Ok, Err, codes, decimal, Result, ◌==◌, nat_lt}
 use Rattle.report.specs.declared.WrongSize.{WrongSize}
 use Rattle.answers.specs.declared.Answer.{Answer}
 use Rattle.answers.specs.declared.Answer.TheVariants.{Done, Byte, Report, Refused}
@@ -22,16 +22,12 @@ report_text bytes = hex_text bytes ++ codes "\n"
 abbrev pub refusal_text : ℕ → ℕ → List ℕ
 refusal_text line number = codes "line " ++ (decimal line ++ (codes " refusal " ++ (decimal number ++ codes "\n")))
 
--- the answer as a line of text; shut, since those who write answers go by its name
+-- the answer as a line of text; opaque, since those who write answers go by its name
 unfoldable pub text_of : Answer → List ℕ
 text_of Done = codes "ok\n"
 text_of (Byte v) = byte_text v
 text_of (Report bytes) = report_text bytes.now
 text_of (Refused line number) = refusal_text line number
-
--- a text in the place of what was there, and all around it kept
-abbrev pub placed : ℕ → List ℕ → List ℕ → List ℕ
-placed at text before = take at before ++ (text ++ drop (at + length text) before)
 
 -- a text in the place of what was in front, and the rest kept
 abbrev pub at_front : List ℕ → List ℕ → List ℕ

@@ -42,6 +42,13 @@ impl Answer<'_> {
         end
     }
 
+    /// How long the answer is.
+    pub fn length(self) -> usize
+        ensures { result ≡ length (text_of self.entry) }
+    {
+        self.text().len()
+    }
+
     /// The answer as a line of text.
     #[tactic(auto, unfolding(crate::specs::Text::text_of))]
     fn text(self) -> ArrayString<LONGEST>
@@ -56,6 +63,7 @@ impl Answer<'_> {
                 text.push_str("\n");
             }
             Answer::Report(report) => push_report(&mut text, report),
+            // Piece by piece: `write!` promises its text only if it gives `Ok`, and no clause says when it does.
             Answer::Refused { line, number } => {
                 let mut digits = Buffer::new();
                 text.push_str("line ");

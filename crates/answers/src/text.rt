@@ -20,6 +20,7 @@ fn hex_digit(n: u8) -> char
 }
 
 /// Puts the two digits of a byte at the end.
+// Digit by digit: `write!` of `{:02X}` promises them only if it gives `Ok`, and no clause says when it does.
 pub(crate) fn push_hex(text: &mut ArrayString<LONGEST>, byte: u8)
     requires { array_string_len text.old + 2 ≤ LONGEST }
     ensures { text.new.bytes ≡ text.old.bytes ++ hex_text (byte ∷ []) }

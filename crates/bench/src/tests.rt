@@ -1,5 +1,5 @@
-use part::Part;
 use part::events::Pin;
+use part::{Part, Samples};
 use registers::causes::Trip;
 use registers::pins::{Level, Pins};
 use registers::register;
@@ -15,16 +15,24 @@ fn sample(value: u16) -> Sample {
     Sample::new(value).unwrap_or(Sample::full_scale())
 }
 
+/// A tick with this voltage and no current.
+fn tick(part: &mut Part, voltage: u16) {
+    part.tick(Samples {
+        current: Sample::zero(),
+        voltage: sample(voltage),
+    });
+}
+
 /// Ticks with the voltages `step`, `2 * step`, .. and no current.
 fn ramp(part: &mut Part, ticks: u16, step: u16) {
     for k in 1..=ticks {
-        part.tick(Sample::zero(), sample(k.saturating_mul(step)));
+        tick(part, k.saturating_mul(step));
     }
 }
 
 fn ticks(part: &mut Part, count: u16) {
     for _ in 0..count {
-        part.tick(Sample::zero(), sample(100));
+        tick(part, 100);
     }
 }
 
@@ -42,7 +50,10 @@ fn stored(part: &mut Part) -> usize {
 #[test]
 fn full_scale(rt: HostRuntime) {
     let mut part = powered();
-    part.tick(sample(1023), sample(1023));
+    part.tick(Samples {
+        current: sample(1023),
+        voltage: sample(1023),
+    });
     assert_eq!(rt; part.register(register::ADC_CS_MSB), Some(255));
     assert_eq!(rt; part.register(register::ADC_CS_LSB), Some(3));
     assert!(rt; Sample::new(1024).is_none());
@@ -87,6 +98,20 @@ fn stop_delays(rt: HostRuntime) {
     assert_eq!(rt; stored_after_trip(63, 60), 50);
 }
 
+/// Of the samples 1 to 60 the ring stores the first fifty.
+#[test]
+fn longest_delay_is_fifty(rt: HostRuntime) {
+    let mut part = powered();
+    part.write(register::CBUFRD_HIBYONLY, 0);
+    part.write(register::CBUF_DLY_STOP, 63);
+    part.trip(Trip::Slow);
+    ramp(&mut part, 60, 1);
+    let mut block = [7; 100];
+    part.block(Signal::Voltage, &mut block);
+    assert_eq!(rt; (block[0], block[1]), (0, 2));
+    assert_eq!(rt; (block[98], block[99]), (0, 1));
+}
+
 /// The sample that shuts the channel is stored before the delay begins.
 #[test]
 fn shutting_sample_is_not_counted(rt: HostRuntime) {
@@ -96,7 +121,7 @@ fn shutting_sample_is_not_counted(rt: HostRuntime) {
     part.write(register::CBUF_CHX_STORE, 15);
     part.write(register::UV2TH_MSB, 10);
     part.write(register::CBUF_DLY_STOP, 2);
-    part.tick(Sample::zero(), sample(1));
+    tick(&mut part, 1);
     assert_eq!(rt; part.register(register::FAULT0), Some(16));
     ticks(&mut part, 5);
     assert_eq!(rt; stored(&mut part), 3);

@@ -1,3 +1,4 @@
+pub mod Bits
 pub mod Runs
 pub mod Calls
 pub mod Recordings

@@ -9,8 +9,8 @@ use crate::levels::Levels;
 /// The highest address of seven bits.
 const HIGHEST_ADDRESS: u8 = 0x7F;
 
-// Two enums of faults, since one would have a case that a `put` never has, and one that a `read` never has.
 /// Which byte of a `put` was not acknowledged.
+// Two enums of faults, since one would have a case that a `put` never has, and one that a `read` never has.
 #[derive(Clone, Copy, PartialEq, Eq, Debug)]
 pub enum PutFault {
     /// The address with the write bit; also an address above 0x7F, which is never sent.
@@ -40,10 +40,11 @@ impl Address {
     fn new(bits: u8) -> Option<Address>
         ensures { MatchOption result (128 ≤ bits) (λ a. (bits < 128) × (a.bits ≡ bits)) }
     {
-        if bits > HIGHEST_ADDRESS {
-            return None;
-        }
-        Some(Address { bits })
+        (bits <= HIGHEST_ADDRESS).then(
+            ||
+                requires { bits < 128 }
+            { Address { bits } },
+        )
     }
 
     fn to_write(self) -> u8
@@ -59,6 +60,8 @@ impl Address {
     }
 }
 
+// Inlined, as `send_bit` is: bits are nearly all that a master sends.
+#[inline(always)]
 fn drive<B: Bus>(bus: &mut B, scl: bool, sda: bool) -> bool
     ensures { B.drives bus.old (pair scl sda) result bus.new }
 {
@@ -91,6 +94,7 @@ fn stop<B: Bus>(bus: &mut B)
 }
 
 /// Sends a bit, and hears SDA while SCL is high.
+#[inline(always)]
 fn send_bit<B: Bus>(bus: &mut B, bit: bool) -> bool
     ensures { Driven B.drives bus.old (heard_frame bit result) bus.new }
 {
@@ -106,8 +110,10 @@ fn send_byte<B: Bus, E: Copy>(bus: &mut B, byte: u8, missing: E) -> Result<(), E
     ensures run { Driven B.drives bus.old (byte_frame byte (is_ok result)) bus.new }
     ensures fault { IfErr result (λ e. e ≡ missing) }
 {
-    for bit in (0..8u8).rev() {
-        send_bit(bus, (byte >> bit) % 2 == 1);
+    let mut left = byte;
+    for _ in 0..8u8 {
+        send_bit(bus, left > 127);
+        left <<= 1;
     }
     if send_bit(bus, true) {
         Err(missing)
@@ -143,8 +149,8 @@ fn read_all<B: Bus>(bus: &mut B, into: &mut [u8])
     send_bit(bus, true);
 }
 
-// The parameters stay apart: a struct of them would be made for one call and taken apart in it.
 /// The bytes of a `put`, up to one that is not acknowledged.
+// The parameters stay apart: a struct of them would be made for one call and taken apart in it.
 #[tactic(auto, using(crate::proofs::Runs::then))]
 fn send_put<B: Bus>(bus: &mut B, address: Address, register: u8, byte: u8) -> Result<(), PutFault>
     ensures { Driven B.drives bus.old (put_bytes address.bits register byte result) bus.new }

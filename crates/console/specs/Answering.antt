@@ -31,12 +31,12 @@ said n (byte b) = byte_text b
 said n (report bytes) = report_text bytes
 said n (refused c) = refusal_text n (cause_number c)
 
--- how long it is, or the fault, which has the line and the length
+-- how long it is, or the fault, which has the line
 abbrev pub result_of : ℕ → Outcome → Result ℕ ConsoleFault
 result_of n done = Ok (length (said n done))
 result_of n (byte b) = Ok (length (said n (byte b)))
 result_of n (report bytes) = Ok (length (said n (report bytes)))
-result_of n (refused c) = Err (Line n c (length (said n (refused c))))
+result_of n (refused c) = Err (Line n c)
 
 -- lines are counted from 1, and the count rests at its greatest
 abbrev pub next_line : ℕ → ℕ
@@ -55,8 +55,12 @@ answer_left size m a spoken = cond (fits size) (line_left m a spoken) m
 abbrev pub answer_buffer : List ℕ → ℕ → Outcome → List ℕ
 answer_buffer before n o = cond (fits (length before)) (at_front (said n o) before) before
 
+-- how many bytes of the buffer are the answer that tells of a fault
+abbrev pub fault_length : ConsoleFault → ℕ
+fault_length Size = 0
+fault_length (Line n c) = length (said n (refused c))
+
 -- how many bytes of the buffer are the answer
 abbrev pub answer_length : Result ℕ ConsoleFault → ℕ
 answer_length (Ok n) = n
-answer_length (Err Size) = 0
-answer_length (Err (Line line cause length)) = length
+answer_length (Err e) = fault_length e

@@ -12,4 +12,4 @@ cause_number (Reading fault) = reading_number fault
 
 abbrev pub fault_number : ConsoleFault → ℕ
 fault_number Size = 5
-fault_number (Line line cause length) = cause_number cause
+fault_number (Line line cause) = cause_number cause

@@ -1,6 +1,5 @@
 -- What a command comes to on a rig that means m, at the address a: what there is to say, and what it leaves.
 use Rattle.std.specs.Prelude.{ℕ, cond, List}
-use Rattle.registers.specs.Pins.{level_of}
 use Rattle.registers.specs.declared.causes.Trip.TheVariants as trip
 use Rattle.part.specs.declared.events.Pin.TheVariants as pin
 use Rattle.rig.specs.declared.Refusal.TheVariants.{Silence}
@@ -29,8 +28,8 @@ heard (rig.refused e) = refused (Reading (Refused e))
 
 abbrev pub outcome : rig.Meaning → ℕ → Command → Outcome
 outcome m a (Tick i v) = heard (rig.answer m (rig.tick i v))
-outcome m a (On b) = done
-outcome m a (Pol b) = done
+outcome m a (On l) = done
+outcome m a (Pol l) = done
 outcome m a Fast = done
 outcome m a Slow = done
 outcome m a (Put r x) = heard (rig.answer m (rig.put a r x))
@@ -39,8 +38,8 @@ outcome m a Read = cond (rig.hears m a) (report (report_on m.part)) (refused (Re
 
 abbrev pub left_by : rig.Meaning → ℕ → Command → rig.Meaning
 left_by m a (Tick i v) = rig.next m (rig.tick i v)
-left_by m a (On b) = rig.next m (rig.pin pin.On (level_of b))
-left_by m a (Pol b) = rig.next m (rig.pin pin.Pol (level_of b))
+left_by m a (On l) = rig.next m (rig.pin pin.On l)
+left_by m a (Pol l) = rig.next m (rig.pin pin.Pol l)
 left_by m a Fast = rig.next m (rig.trip trip.Fast)
 left_by m a Slow = rig.next m (rig.trip trip.Slow)
 left_by m a (Put r x) = rig.next m (rig.put a r x)

@@ -1,11 +1,12 @@
 //! Why a line was refused: its own form, or what came up from the reading and the rig below.
-ghost use Rattle.std.specs.Prelude.{◌≡◌, Err};
-ghost use Rattle.console.specs.Answering.{answer_length};
+ghost use Rattle.std.specs.Prelude.{◌≡◌};
+ghost use Rattle.console.specs.Answering.{fault_length};
 ghost use Rattle.console.specs.Faults.{cause_number, fault_number};
 ghost use Rattle.console.specs.declared.fault.Cause.TheVariants.{Reading};
 ghost use Rattle.console.specs.declared.fault.ConsoleFault.TheVariants.{Size};
 ghost use Rattle.reading.specs.declared.ReadingFault.TheVariants.{Refused};
 
+use answers::Answer;
 use reading::ReadingFault;
 use report::WrongSize;
 use rig::Refusal;
@@ -34,7 +35,7 @@ impl Cause {
     }
 }
 
-// The `From`s are by hand, since `from_gives` says what each makes, and clauses name it.
+// The `From`s are by hand, since `from_gives` says what each makes: proofs go by it at each `?`.
 impl From<WrongSize> for ConsoleFault {
     ghost from_gives = { λ _ f. f ≡ Size };
 
@@ -64,12 +65,8 @@ impl From<Refusal> for Cause {
 pub enum ConsoleFault {
     /// The buffer does not have the bytes of an answer. Nothing was done.
     Size,
-    /// The line was refused. The buffer holds the answer that says so, of this many bytes.
-    Line {
-        line: u32,
-        cause: Cause,
-        length: usize,
-    },
+    /// The line was refused. The buffer holds the answer that says so.
+    Line { line: u32, cause: Cause },
 }
 
 impl ConsoleFault {
@@ -84,12 +81,17 @@ impl ConsoleFault {
     }
 
     /// How many bytes of the buffer are the answer.
+    // From the answer again, so that a fault carries no length beside what it is the length of.
+    #[tactic(auto, unfolding(crate::specs::Answering::said, answers::specs::Text::text_of))]
     pub fn length(self) -> usize
-        ensures { result ≡ answer_length (Err self) }
+        ensures { result ≡ fault_length self }
     {
         match self {
             ConsoleFault::Size => 0,
-            ConsoleFault::Line { length, .. } => length,
+            ConsoleFault::Line { line, cause } => {
+                let number = cause.number();
+                Answer::Refused { line, number }.length()
+            }
         }
     }
 }

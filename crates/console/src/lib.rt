@@ -1,7 +1,7 @@
 //! The console over any rig: a line of a script in, an answer out.
 #![tactic(auto)]
 
-ghost use Rattle.std.specs.Prelude.{◌≡◌, ℕ, ◌≤◌, length, if◌then◌else◌, Ok, Result};
+ghost use Rattle.std.specs.Prelude.{◌≡◌, ℕ, ◌≤◌, true, length, if◌then◌else◌, Ok, Result};
 ghost use Rattle.script.specs.declared.command.Command.{Command as Spoken};
 ghost use Rattle.answers.specs.Text.{text_of, at_front};
 ghost use Rattle.console.specs.Answering.{Reads, line_outcome, line_left, said, result_of, next_line, fits, answer_result, answer_left, answer_buffer, answer_length};
@@ -17,7 +17,6 @@ pub use fault::{Cause, ConsoleFault, WRONG_FORM};
 use part::events::Pin;
 use reading::{ReadingFault, read};
 use registers::causes::Trip;
-use registers::pins::Level;
 use report::{REPORT_BYTES, WrongSize};
 use rig::Rig;
 use script::Command;
@@ -66,17 +65,13 @@ fn next_line(line: u32) -> u32
 /// Writes the answer to a line that was refused, and makes its fault.
 #[tactic(auto, unfolding(crate::specs::Answering::said, answers::specs::Text::text_of))]
 fn refuse(line: u32, cause: Cause, out: &mut [u8; ANSWER_BYTES]) -> ConsoleFault
-    ensures fault { result ≡ Line line cause (length (said line (refused cause))) }
+    ensures fault { result ≡ Line line cause }
     ensures written { out.new ≡ at_front (said line (refused cause)) out.old }
     ensures bound { length (said line (refused cause)) ≤ 541 }
 {
     let number = cause.number();
-    let length = Answer::Refused { line, number }.put(out);
-    ConsoleFault::Line {
-        line,
-        cause,
-        length,
-    }
+    Answer::Refused { line, number }.put(out);
+    ConsoleFault::Line { line, cause }
 }
 
 /// Writes the answer to a line: what it came to, the report standing in its buffer.
@@ -98,6 +93,7 @@ fn say(
 
 /// Answers the first line of a script, which says how many silences the rig owes at its start.
 pub fn boot(line: &[u8], out: &mut [u8]) -> Result<(u8, usize), ConsoleFault>
+    ensures reads { fits (length out.old) ≡ true → (s : Result ℕ ℕ) × FirstReads line.now s }
     ensures answers { (s : Result ℕ ℕ) → FirstReads line.now s → result ≡ boot_result (length out.old) s }
     ensures written { (s : Result ℕ ℕ) → FirstReads line.now s → out.new ≡ answer_buffer out.old 1 (boot_outcome s) }
     ensures bound { boot_length result ≤ 541 }
@@ -109,50 +105,49 @@ pub fn boot(line: &[u8], out: &mut [u8]) -> Result<(u8, usize), ConsoleFault>
     }
 }
 
+/// Does what a command says.
+fn obey<R: Rig>(
+    rig: &mut R,
+    address: u8,
+    command: Command,
+    report: &mut [u8; REPORT_BYTES],
+) -> Result<Reply, Cause>
+    ensures answers { told result report.new ≡ outcome (R.Rig.meaning rig.old) address command }
+    ensures after { R.Rig.meaning rig.new ≡ left_by (R.Rig.meaning rig.old) address command }
+{
+    match command {
+        Command::Tick { current, voltage } => rig.tick(current, voltage)?,
+        Command::On(level) => rig.pin(Pin::On, level),
+        Command::Pol(level) => rig.pin(Pin::Pol, level),
+        Command::Fast => rig.trip(Trip::Fast),
+        Command::Slow => rig.trip(Trip::Slow),
+        Command::Put { register, byte } => rig.put(address, register, byte)?,
+        Command::Get(register) => return Ok(Reply::Byte(rig.get(address, register)?)),
+        Command::Read => {
+            read(rig, address, report)?;
+            return Ok(Reply::Report);
+        }
+    }
+    Ok(Reply::Done)
+}
+
+/// What a line comes to, by what it says: a wrong one comes to nothing but its column.
+fn obey_line<R: Rig>(
+    rig: &mut R,
+    address: u8,
+    spoken: Result<Command, usize>,
+    report: &mut [u8; REPORT_BYTES],
+) -> Result<Reply, Cause>
+    ensures answers { told result report.new ≡ line_outcome (R.Rig.meaning rig.old) address spoken }
+    ensures after { R.Rig.meaning rig.new ≡ line_left (R.Rig.meaning rig.old) address spoken }
+{
+    match spoken {
+        Ok(command) => obey(rig, address, command, report),
+        Err(column) => Err(Cause::Form { column }),
+    }
+}
+
 impl<R: Rig> Console<R> {
-    /// Does what a command says.
-    // That address and count stay is said: a struct of rig and address would spare `line`, and lengthen each public clause.
-    fn obey(&mut self, command: Command, report: &mut [u8; REPORT_BYTES]) -> Result<Reply, Cause>
-        ensures answers { told result report.new ≡ outcome (R.Rig.meaning self.old.rig) self.old.address command }
-        ensures after { R.Rig.meaning self.new.rig ≡ left_by (R.Rig.meaning self.old.rig) self.old.address command }
-        ensures address { self.new.address ≡ self.old.address }
-        ensures line { self.new.line ≡ self.old.line }
-    {
-        match command {
-            Command::Tick { current, voltage } => self.rig.tick(current, voltage)?,
-            Command::On(high) => self.rig.pin(Pin::On, Level::from(high)),
-            Command::Pol(high) => self.rig.pin(Pin::Pol, Level::from(high)),
-            Command::Fast => self.rig.trip(Trip::Fast),
-            Command::Slow => self.rig.trip(Trip::Slow),
-            Command::Put { register, byte } => self.rig.put(self.address, register, byte)?,
-            Command::Get(register) => {
-                return Ok(Reply::Byte(self.rig.get(self.address, register)?));
-            }
-            Command::Read => {
-                read(&mut self.rig, self.address, report)?;
-                return Ok(Reply::Report);
-            }
-        }
-        Ok(Reply::Done)
-    }
-
-    /// What a line comes to, by what it says: a wrong one comes to nothing but its column.
-    fn reply(
-        &mut self,
-        spoken: Result<Command, usize>,
-        report: &mut [u8; REPORT_BYTES],
-    ) -> Result<Reply, Cause>
-        ensures answers { told result report.new ≡ line_outcome (R.Rig.meaning self.old.rig) self.old.address spoken }
-        ensures after { R.Rig.meaning self.new.rig ≡ line_left (R.Rig.meaning self.old.rig) self.old.address spoken }
-        ensures address { self.new.address ≡ self.old.address }
-        ensures line { self.new.line ≡ self.old.line }
-    {
-        match spoken {
-            Ok(command) => self.obey(command, report),
-            Err(column) => Err(Cause::Form { column }),
-        }
-    }
-
     /// A console over a rig. The first line has been answered before: it says how the rig starts.
     pub fn new(rig: R, address: u8) -> Console<R>
         ensures rig { result.rig ≡ rig }
@@ -169,6 +164,7 @@ impl<R: Rig> Console<R> {
     /// Answers the next line at the front of the buffer, and keeps the rest of it.
     /// The size of the buffer is tested ahead of everything.
     pub fn answer(&mut self, line: &[u8], out: &mut [u8]) -> Result<usize, ConsoleFault>
+        ensures reads { fits (length out.old) ≡ true → (s : Result Spoken ℕ) × Reads line.now s }
         ensures answers { (s : Result Spoken ℕ) → Reads line.now s → result ≡ answer_result (length out.old) (next_line self.old.line) (line_outcome (R.Rig.meaning self.old.rig) self.old.address s) }
         ensures after { (s : Result Spoken ℕ) → Reads line.now s → R.Rig.meaning self.new.rig ≡ answer_left (length out.old) (R.Rig.meaning self.old.rig) self.old.address s }
         ensures written { (s : Result Spoken ℕ) → Reads line.now s → out.new ≡ answer_buffer out.old (next_line self.old.line) (line_outcome (R.Rig.meaning self.old.rig) self.old.address s) }
@@ -179,7 +175,7 @@ impl<R: Rig> Console<R> {
         let out = out.as_mut_array().ok_or(WrongSize)?;
         self.line = next_line(self.line);
         let mut report = [0; REPORT_BYTES];
-        let reply = self.reply(command(line), &mut report);
+        let reply = obey_line(&mut self.rig, self.address, command(line), &mut report);
         say(self.line, reply, &report, out)
     }
 }

@@ -1,6 +1,6 @@
 //! Two rigs of two kinds, compared by the reports on their parts.
 use crate::flight::Flight;
-use crate::page;
+use crate::page::Page;
 use crate::stop::Stop;
 use reading::compare;
 use registers::pins::Pins;
@@ -47,8 +47,8 @@ pub(crate) fn tell(rt: &impl Print, pins: Pins, address: u8) -> Result<(), Stop>
     println!(rt; "A direct rig compared with patience 2 on a wire rig")?;
     let reports = flights(rt, pins, address, (590, 590))?;
     println!(rt; "The report on both")?;
-    page::whole(rt, View::new(&reports.left))?;
+    Page::new(rt, View::new(&reports.left)).whole()?;
     let reports = flights(rt, pins, address, (590, 580))?;
-    page::differences(rt, View::new(&reports.left), View::new(&reports.right))?;
+    Page::new(rt, View::new(&reports.left)).differences(View::new(&reports.right))?;
     Ok(())
 }

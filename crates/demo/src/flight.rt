@@ -2,10 +2,9 @@
 use crate::print;
 use crate::stop::Stop;
 use registers::causes::Trip;
-use registers::register;
-use registers::register::COUNT;
+use registers::{bits, register};
+use report::SIGNALS;
 use rig::{LONGEST_BLOCK, Refusal, Rig, base_of};
-use samples::signal::Signal;
 use std::io;
 
 const CURRENT: u16 = 200;
@@ -41,15 +40,6 @@ impl<R: Rig> Flight<R> {
         self.rig.get(self.address, number)
     }
 
-    /// All registers, in order.
-    fn registers(&mut self) -> Result<[u8; COUNT], Refusal> {
-        let mut bytes = [0; COUNT];
-        for (number, byte) in (0..COUNT as u8).zip(bytes.iter_mut()) {
-            *byte = self.get(number)?;
-        }
-        Ok(bytes)
-    }
-
     fn set_up(&mut self) -> Result<(), Refusal> {
         for (number, byte) in SETTINGS {
             self.rig.put(self.address, number, byte)?;
@@ -60,7 +50,7 @@ impl<R: Rig> Flight<R> {
     /// Steady ticks until power-good, and how many there were.
     fn until_good(&mut self) -> Result<u16, Stop> {
         for ticks in 0..MOST_TICKS {
-            if self.get(register::STATUS3)? % 2 == 1 {
+            if bits::is_set(self.get(register::STATUS3)?, bits::POWER_GOOD) {
                 return Ok(ticks);
             }
             self.rig.tick(CURRENT, VOLTAGE)?;
@@ -77,7 +67,7 @@ impl<R: Rig> Flight<R> {
     }
 
     /// The whole flight, untold: power-good, a dip of the voltage to this, a trip and the run-down.
-    // These stages stand in `tell` too: a closure for what it prints between them would be no plainer
+    // These stages stand in `tell` too: a closure for what it prints between them would be no plainer.
     pub(crate) fn fly(&mut self, dip: u16) -> Result<(), Stop> {
         self.set_up()?;
         self.until_good()?;
@@ -103,7 +93,8 @@ impl<R: Rig> Flight<R> {
 
     /// The whole flight, stage by stage.
     pub(crate) fn tell(&mut self, rt: &impl Print) -> Result<(), Stop> {
-        print::registers(rt, &self.registers()?)?;
+        let bytes = reading::registers(&mut self.rig, self.address)?;
+        print::registers(rt, &bytes)?;
         self.set_up()?;
         println!(rt; "  settings written")?;
         let ticks = self.until_good()?;
@@ -131,7 +122,7 @@ impl<R: Rig> Flight<R> {
 
     fn rings(&mut self, rt: &impl Print) -> Result<(), Stop> {
         let mut block = [0; LONGEST_BLOCK];
-        for signal in [Signal::Voltage, Signal::Current] {
+        for signal in SIGNALS {
             self.rig.block(self.address, base_of(signal), &mut block)?;
             println!(rt; "  {signal} ring, oldest last")?;
             print::byte_rows(rt, &block)?;

@@ -9,16 +9,17 @@ mod print;
 mod stop;
 
 use bus::levels::Levels;
+use cases::ramp;
 use flight::Flight;
-use part::Part;
 use part::replay::Event;
+use part::{Part, Samples};
 use registers::causes::Trip;
 use registers::pins::Pins;
 use registers::register;
 use rig::{Direct, Patience};
 use samples::ring::{Resolution, Ring};
 use samples::sample::Sample;
-use std::{array, io};
+use std::io;
 use stop::Stop;
 use wire::Wire;
 use wire::receiver::Receiver;
@@ -53,11 +54,6 @@ fn noise(rt: &impl Print) -> io::Result<()> {
     print::outputs(rt, receiver.outputs())
 }
 
-/// The samples 1 to 51.
-fn ramp() -> [Sample; 51] {
-    array::from_fn(|k| Sample::new(k as u16 + 1).unwrap())
-}
-
 /// Fifty-one samples go into a ring of fifty: the first one leaves it.
 fn ring(rt: &impl Print) -> io::Result<()> {
     let ring = Ring::recorded(&ramp());
@@ -79,10 +75,10 @@ fn replay(rt: &impl Print) -> io::Result<()> {
             number: register::CBUF_DLY_STOP,
             byte: 2,
         },
-        Event::Tick {
+        Event::Tick(Samples {
             current: Sample::zero(),
             voltage: Sample::full_scale(),
-        },
+        }),
         Event::Trip(Trip::Slow),
     ];
     let part = Part::replay(Pins::payload_bay(), &events);

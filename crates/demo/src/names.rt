@@ -1,8 +1,8 @@
 //! What a reader calls each register.
 use registers::register;
 
-// A `match` on the names of the numbers, and no table: a table by number would need its holes filled.
 /// The name of a register and what it is for; none of a number that has no use.
+// A `match`, and no table: one by number would need its holes filled, and rows in a list would need a search.
 pub(crate) fn of(number: u8) -> Option<(&'static str, &'static str)> {
     let names = match number {
         register::ADC_CS_MSB => ("adc_cs_msb", "latest current, high eight bits"),

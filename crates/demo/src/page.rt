@@ -1,9 +1,8 @@
 //! A report as an engineer reads it, and where two reports differ.
 use crate::{names, print};
 use registers::causes::{Cause, Compare, Trip};
-use registers::pins::Strap;
 use registers::register::COUNT;
-use report::View;
+use report::{SIGNALS, View};
 use samples::ring::LENGTH;
 use samples::signal::Signal;
 use std::{array, io};
@@ -18,105 +17,113 @@ const CAUSES: [(Cause, &str); 7] = [
     (Cause::Compare(Compare::Oi), "overcurrent warning"),
 ];
 
-const SIGNALS: [Signal; 2] = [Signal::Voltage, Signal::Current];
-
-// The runtime and the view are passed on, and make no struct: it would be made for one call.
-pub(crate) fn whole(rt: &impl Print, view: View) -> io::Result<()> {
-    settings(rt, view)?;
-    pins(rt, view)?;
-    causes(rt, view)?;
-    for signal in SIGNALS {
-        waveform(rt, view, signal)?;
-    }
-    Ok(())
-}
-
-fn settings(rt: &impl Print, view: View) -> io::Result<()> {
-    println!(rt; "  settings")?;
-    for number in 0..COUNT as u8 {
-        if let Some(byte) = view.setting(number) {
-            print::named(rt, number, byte)?;
-        }
-    }
-    Ok(())
-}
-
-fn pins(rt: &impl Print, view: View) -> io::Result<()> {
-    let prot = match view.prot() {
-        Some(Strap::Low) => "low",
-        Some(Strap::High) => "high",
-        Some(Strap::Open) => "open",
-        None => "unknown",
-    };
-    let on = view.on();
-    let pol = view.pol();
-    let good = if view.power_good() {
-        "good"
-    } else {
-        "not good"
-    };
-    println!(rt; "  PROT {prot}, ON {on}, POL {pol}, power {good}")
-}
-
-fn causes(rt: &impl Print, view: View) -> io::Result<()> {
-    println!(rt; "  causes logged")?;
-    for (cause, name) in CAUSES {
-        if view.logged(cause) {
-            println!(rt; "    {name}")?;
-        }
-    }
-    Ok(())
-}
-
 /// The samples of a signal's ring, the oldest first. A report has one at each of its places.
 fn samples(view: View, signal: Signal) -> [u16; LENGTH] {
     array::from_fn(|place| view.sample(signal, place).unwrap())
 }
 
-/// The latest sample and the extremes, and the waveform, the oldest sample first.
-fn waveform(rt: &impl Print, view: View, signal: Signal) -> io::Result<()> {
-    let latest = view.latest(signal);
-    match (view.smallest(signal), view.largest(signal)) {
-        (Some(smallest), Some(largest)) => {
-            println!(rt; "  {signal}: latest {latest}, from {smallest} to {largest}")?
-        }
-        _ => println!(rt; "  {signal}: latest {latest}, no extremes")?,
-    }
-    print::samples(rt, &samples(view, signal))
+/// A report, and where it is printed.
+#[derive(Drop)]
+pub(crate) struct Page<'a, P> {
+    rt: &'a P,
+    view: View<'a>,
 }
 
-/// Each register and each sample in which two reports differ.
-pub(crate) fn differences(rt: &impl Print, left: View, right: View) -> io::Result<()> {
-    for number in 0..COUNT as u8 {
-        register_difference(rt, left, right, number)?;
+impl<'a, P: Print> Page<'a, P> {
+    pub(crate) fn new(rt: &'a P, view: View<'a>) -> Page<'a, P> {
+        Page { rt, view }
     }
-    for signal in SIGNALS {
-        sample_differences(rt, left, right, signal)?;
-    }
-    Ok(())
-}
 
-fn register_difference(rt: &impl Print, left: View, right: View, number: u8) -> io::Result<()> {
-    match (
-        names::of(number),
-        left.register(number),
-        right.register(number),
-    ) {
-        (Some((name, _)), Some(a), Some(b)) if a != b => {
-            println!(rt; "    {number:02X} {name:<16} {a:02X} and {b:02X}")
+    pub(crate) fn whole(&self) -> io::Result<()> {
+        self.settings()?;
+        self.pins()?;
+        self.causes()?;
+        for signal in SIGNALS {
+            self.waveform(signal)?;
         }
-        _ => Ok(()),
+        Ok(())
     }
-}
 
-fn sample_differences(rt: &impl Print, left: View, right: View, signal: Signal) -> io::Result<()> {
-    let pairs = samples(left, signal)
-        .into_iter()
-        .zip(samples(right, signal));
-    for (place, (a, b)) in pairs.enumerate() {
-        if a != b {
-            println!(rt; "    {signal} sample {place}: {a} and {b}")?;
+    fn settings(&self) -> io::Result<()> {
+        println!(self.rt; "  settings")?;
+        for number in 0..COUNT as u8 {
+            if let Some(byte) = self.view.setting(number) {
+                print::named(self.rt, number, byte)?;
+            }
+        }
+        Ok(())
+    }
+
+    fn pins(&self) -> io::Result<()> {
+        match self.view.prot() {
+            Some(prot) => print!(self.rt; "  PROT {prot}")?,
+            None => print!(self.rt; "  PROT unknown")?,
+        }
+        let on = self.view.on();
+        let pol = self.view.pol();
+        let good = if self.view.power_good() {
+            "good"
+        } else {
+            "not good"
+        };
+        println!(self.rt; ", ON {on}, POL {pol}, power {good}")
+    }
+
+    fn causes(&self) -> io::Result<()> {
+        println!(self.rt; "  causes logged")?;
+        for (cause, name) in CAUSES {
+            if self.view.logged(cause) {
+                println!(self.rt; "    {name}")?;
+            }
+        }
+        Ok(())
+    }
+
+    /// The latest sample and the extremes, and the waveform, the oldest sample first.
+    fn waveform(&self, signal: Signal) -> io::Result<()> {
+        let latest = self.view.latest(signal);
+        match (self.view.smallest(signal), self.view.largest(signal)) {
+            (Some(smallest), Some(largest)) => {
+                println!(self.rt; "  {signal}: latest {latest}, from {smallest} to {largest}")?
+            }
+            _ => println!(self.rt; "  {signal}: latest {latest}, no extremes")?,
+        }
+        print::samples(self.rt, &samples(self.view, signal))
+    }
+
+    /// Each register and each sample in which another report differs from this one.
+    pub(crate) fn differences(&self, other: View) -> io::Result<()> {
+        for number in 0..COUNT as u8 {
+            self.register_difference(other, number)?;
+        }
+        for signal in SIGNALS {
+            self.sample_differences(other, signal)?;
+        }
+        Ok(())
+    }
+
+    fn register_difference(&self, other: View, number: u8) -> io::Result<()> {
+        match (
+            names::of(number),
+            self.view.register(number),
+            other.register(number),
+        ) {
+            (Some((name, _)), Some(a), Some(b)) if a != b => {
+                println!(self.rt; "    {number:02X} {name:<16} {a:02X} and {b:02X}")
+            }
+            _ => Ok(()),
         }
     }
-    Ok(())
+
+    fn sample_differences(&self, other: View, signal: Signal) -> io::Result<()> {
+        let pairs = samples(self.view, signal)
+            .into_iter()
+            .zip(samples(other, signal));
+        for (place, (a, b)) in pairs.enumerate() {
+            if a != b {
+                println!(self.rt; "    {signal} sample {place}: {a} and {b}")?;
+            }
+        }
+        Ok(())
+    }
 }

@@ -16,7 +16,7 @@ abbrev pub since : Meaning → List Call → Meaning
 since m [] = m
 since m (c ∷ earlier) = next (since m earlier) c
 
--- what a rig with this history means now; shut, so that what stands above goes by the points
+-- what a rig with this history means now; opaque, so that what stands above goes by the points
 unfoldable pub reached : History → Meaning
 reached h = since record { part = powered h.pins; owed = h.debt } h.calls
 

@@ -1,5 +1,5 @@
 -- The channel, and what follows any event: M falling, the channel turning off or on, the extremes resetting.
-use Rattle.std.specs.Prelude.{ℕ, Bool, true, false, cond, not, Some, None, Option, ◌&&◌, ◌||◌, ◌==◌}
+use Rattle.std.specs.Prelude.{ℕ, Bool, false, cond, not, Some, None, Option, ◌&&◌, ◌||◌, ◌==◌}
 use Rattle.samples.specs.declared.signal.Signal.{Signal}
 use Rattle.samples.specs.declared.signal.Signal.TheVariants.{Current, Voltage}
 use Rattle.registers.specs.Pins.{high}
@@ -7,8 +7,8 @@ use Rattle.registers.specs.Questions.{en1, en2, resets, holds, stop_delay}
 use Rattle.registers.specs.Causes.{has, logs}
 use Rattle.part.specs.declared.monitor.RingState.{RingState}
 use Rattle.part.specs.declared.monitor.RingState.TheVariants.{Running, CountingDown, Stopped}
-use Rattle.part.specs.declared.monitor.Turn.{Turn}
-use Rattle.part.specs.declared.monitor.Turn.TheVariants as turn
+use Rattle.part.specs.declared.channel.Turn.{Turn}
+use Rattle.part.specs.declared.channel.Turn.TheVariants as turn
 use Rattle.part.specs.Monitors.{Monitored}
 use Rattle.part.specs.Model.{Model}
 
@@ -58,11 +58,6 @@ settled_monitor forget on off delay t =
 -- the two turns as one: none, on, or off with the stop delay
 abbrev pub turn_by : Bool → Model → Option Turn
 turn_by was m = cond (turns_on was m) (Some turn.On) (cond (turns_off was m) (Some (turn.Off (stop_delay m.settings))) None)
-
-abbrev pub turned_monitor : Bool → Option Turn → Monitored → Monitored
-turned_monitor forget None t = settled_monitor forget false false 0 t
-turned_monitor forget (Some turn.On) t = settled_monitor forget true false 0 t
-turned_monitor forget (Some (turn.Off delay)) t = settled_monitor forget false true delay t
 
 abbrev pub settled_signal : Bool → Model → Signal → Monitored → Monitored
 settled_signal was m s t = settled_monitor (forgets was m s) (turns_on was m) (turns_off was m) (stop_delay m.settings) t

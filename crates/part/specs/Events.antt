@@ -1,5 +1,5 @@
 -- The events of a part, and what each makes of it.
-use Rattle.std.specs.Prelude.{ℕ, Bool, true, false, cond, ◌&&◌, ◌==◌}
+use Rattle.std.specs.Prelude.{ℕ, Bool, true, false, cond, List, ◌&&◌, ◌==◌}
 use Rattle.samples.specs.declared.signal.Signal.{Signal}
 use Rattle.samples.specs.declared.signal.Signal.TheVariants.{Current, Voltage}
 use Rattle.registers.specs.declared.pins.Level.{Level}
@@ -89,6 +89,10 @@ woken Stopped = Running
 abbrev pub with_state : Monitored → RingState → Monitored
 with_state t g = record { latest = t.latest; smallest = t.smallest; largest = t.largest; ring = t.ring; state = g }
 
+-- by the settings: with its run bit 0 a ring stays as it is
+abbrev pub woken_by : List ℕ → Signal → Monitored → Monitored
+woken_by bytes s t = with_state t (cond (runs bytes s) (woken t.state) t.state)
+
 abbrev pub restarted : Model → ℕ → ℕ → Signal → Monitored → Monitored
 restarted m n byte s t = with_state t (cond (n == 0x19 && runs (written m.settings n byte) s) (woken t.state) t.state)
 
@@ -140,7 +144,7 @@ pub data Event : Type 0 where
   write : ℕ → ℕ → Event
   block : Signal → Event
 
--- shut, so that what stands above a part goes by the laws of Runs
+-- opaque, so that what stands above a part goes by the laws of Runs
 unfoldable pub step : Model → Event → Model
 step m (tick i v) = settled m (measured m i v)
 step m (pin w l) = settled m (pinned m w l)

@@ -58,6 +58,11 @@ abbrev pub monitor : Signal → Model → Monitored
 monitor Current m = m.current
 monitor Voltage m = m.voltage
 
+-- the same part, with this kept of a signal
+abbrev pub keeping : Model → Signal → Monitored → Model
+keeping m Current t = record m { current = t }
+keeping m Voltage t = record m { voltage = t }
+
 -- the sample of a signal, of a current and a voltage
 abbrev pub sample : Signal → ℕ → ℕ → ℕ
 sample Current i v = i

@@ -29,7 +29,7 @@ after p es = ran (powered p) es
 
 -- an event as the code has it
 abbrev pub told : Given → Event
-told (given.Tick i v) = tick i.value v.value
+told (given.Tick s) = tick s.current.value s.voltage.value
 told (given.Pin w l) = pin w l
 told (given.Trip t) = trip t
 told (given.Write n byte) = write n byte

@@ -1,13 +1,20 @@
 //! The channel: when it is on, and what follows an event that has moved its enables or its latch.
-ghost use Rattle.std.specs.Prelude.{◌≡◌, not, ◌&&◌, ◌||◌};
-ghost use Rattle.part.specs.Model.{model};
-ghost use Rattle.part.specs.Channel.{majority as majority_of, channel as channel_of, falls as falls_by, turns_on as turns_on_by, turns_off as turns_off_by, turn_by, forgets as forgets_by, settled, settled_by};
+ghost use Rattle.std.specs.Prelude.{◌≡◌};
+ghost use Rattle.part.specs.Model.{model, monitor, keeping};
+ghost use Rattle.part.specs.Channel.{majority as majority_of, channel as channel_of, turn_by, forgets as forgets_by, settled, settled_by, settled_signal};
 ghost use Rattle.std.specs.Fn.{FnOnceReturnsAtMut};
 
 use crate::Part;
-use crate::monitor::Turn;
+use crate::monitor::{Extremes, RingState};
 use registers::causes::Logs;
 use samples::signal::Signal;
+
+/// How the channel has turned in an event. Where it has turned off, a running ring goes on for the delay.
+#[derive(Clone, Copy)]
+enum Turn {
+    On,
+    Off { delay: u8 },
+}
 
 impl Part {
     /// At least two of EN1, EN2 and ON are 1.
@@ -29,42 +36,26 @@ impl Part {
         self.majority() && !self.latched
     }
 
-    fn falls(&self, was: bool) -> bool
-        ensures { result ≡ falls_by was (model self.now) }
-    {
-        was && !self.majority()
-    }
-
-    // Beside `turn`, which reads better where rings are told of it than in a test.
-    fn turns_off(&self, was: bool) -> bool
-        ensures { result ≡ turns_off_by was (model self.now) }
-    {
-        was && !self.channel()
-    }
-
-    fn turns_on(&self, was: bool) -> bool
-        ensures { result ≡ turns_on_by was (model self.now) }
-    {
-        !was && self.channel()
-    }
-
+    /// How the channel has turned, given what it was.
     fn turn(&self, was: bool) -> Option<Turn>
         ensures { result ≡ turn_by was (model self.now) }
     {
-        if self.turns_on(was) {
-            Some(Turn::On)
-        } else if self.turns_off(was) {
-            let delay = self.settings.stop_delay();
-            Some(Turn::Off { delay })
-        } else {
-            None
+        match (was, self.channel()) {
+            (false, true) => Some(Turn::On),
+            (true, false) => {
+                let delay = self.settings.stop_delay();
+                Some(Turn::Off { delay })
+            }
+            _ => None,
         }
     }
 
+    /// The extremes of the signal are reset: its reset bit is 1 or the channel turns on, and its hold bit is 0.
     fn forgets(&self, signal: Signal, was: bool) -> bool
         ensures { result ≡ forgets_by was (model self.now) signal }
     {
-        !self.settings.holds(signal) && (self.settings.resets(signal) || self.turns_on(was))
+        let turns_on = !was && self.channel();
+        !self.settings.holds(signal) && (self.settings.resets(signal) || turns_on)
     }
 
     /// An event: what happens to the part, and what follows from it.
@@ -78,25 +69,40 @@ impl Part {
         self.settle(majority, channel);
     }
 
+    /// What follows an event for a signal, given what the channel was before it.
+    // What it was is handed down, and no turn: its contract would need a definition more, of what a turn does to a signal.
+    fn settle_signal(&mut self, signal: Signal, channel: bool)
+        ensures { model self.new ≡ keeping (model self.old) signal (settled_signal channel (model self.old) signal (monitor signal (model self.old))) }
+    {
+        let forgets = self.forgets(signal, channel);
+        let turn = self.turn(channel);
+        let monitor = self.monitor_mut(signal);
+        if forgets {
+            monitor.extremes = Extremes::reset();
+        }
+        match turn {
+            Some(Turn::On) => monitor.state = RingState::Running,
+            Some(Turn::Off { delay }) => monitor.state = monitor.state.slowed(delay),
+            None => {}
+        }
+    }
+
     /// What follows an event, given what the majority and the channel were before it.
-    #[tactic(auto, using(crate::proofs::Turns::turned))]
+    #[tactic(auto, unfolding(crate::specs::Channel::majority, crate::specs::Channel::channel))]
     fn settle(&mut self, majority: bool, channel: bool)
         ensures { model self.new ≡ settled_by majority channel (model self.old) }
     {
-        let falls = self.falls(majority);
-        let off = self.turns_off(channel);
-        let turn = self.turn(channel);
-        let forget_current = self.forgets(Signal::Current, channel);
-        let forget_voltage = self.forgets(Signal::Voltage, channel);
+        let falls = majority && !self.majority();
+        let turns_off = channel && !self.channel();
+        self.settle_signal(Signal::Current, channel);
+        self.settle_signal(Signal::Voltage, channel);
         if falls {
             self.latched = false;
             self.logs = Logs::none();
         }
-        if off {
+        if turns_off {
             self.power_good = false;
             self.good_count = 0;
         }
-        self.current.settle(forget_current, turn);
-        self.voltage.settle(forget_voltage, turn);
     }
 }

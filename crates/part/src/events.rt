@@ -2,8 +2,8 @@
 ghost use Rattle.std.specs.Prelude.{◌≡◌, length};
 ghost use Rattle.samples.specs.History.{byte_at, readout};
 ghost use Rattle.registers.specs.Questions.{resolution as resolution_of};
-ghost use Rattle.part.specs.Model.{model, monitor};
-ghost use Rattle.part.specs.Events.{step, pin as pins, trip as trips, write as writes, block as blocks, tripped, overwritten};
+ghost use Rattle.part.specs.Model.{model, monitor, keeping};
+ghost use Rattle.part.specs.Events.{step, pin as pins, trip as trips, write as writes, block as blocks, tripped, woken_by, overwritten};
 
 use crate::Part;
 use registers::causes::Trip;
@@ -73,10 +73,19 @@ impl Part {
             }
             register::FAULT2 => self.logs.compares.oi = false,
             register::CBUF_CHX_STORE => {
-                self.current.restart(self.settings.runs(Signal::Current));
-                self.voltage.restart(self.settings.runs(Signal::Voltage));
+                self.restart(Signal::Current);
+                self.restart(Signal::Voltage);
             }
             _ => {}
+        }
+    }
+
+    /// The run bit of a signal is written: at 1 it makes a stopped ring run.
+    fn restart(&mut self, signal: Signal)
+        ensures { model self.new ≡ keeping (model self.old) signal (woken_by (model self.old).settings signal (monitor signal (model self.old))) }
+    {
+        if self.settings.runs(signal) {
+            self.monitor_mut(signal).wake();
         }
     }
 

@@ -20,6 +20,7 @@ use registers::causes::{Compares, Logs};
 use registers::pins::{Level, Pins};
 use registers::settings::Settings;
 use samples::signal::Signal;
+pub use tick::Samples;
 
 /// A MAX5978: its pins, its settings, and what it has measured, logged and decided since power-up.
 // No model: callers would see the value alone, and not, by the types of the fields, that all it shows are bytes.

@@ -1,8 +1,8 @@
 //! What the part keeps of one signal: its latest sample, its extremes and its ring.
-ghost use Rattle.std.specs.Prelude.{◌≡◌, if◌then◌else◌};
+ghost use Rattle.std.specs.Prelude.{◌≡◌};
 ghost use Rattle.part.specs.Monitors.{monitored, fresh};
-ghost use Rattle.part.specs.Channel.{slowed as slowed_by, turned_monitor};
-ghost use Rattle.part.specs.Tick.{moving, one_less as one_less_of, sampled_monitor};
+ghost use Rattle.part.specs.Channel.{slowed as slowed_by};
+ghost use Rattle.part.specs.Tick.{moving, one_less as one_less_of, lesser, greater};
 ghost use Rattle.part.specs.Events.{woken, with_state};
 
 use samples::ring::Ring;
@@ -16,14 +16,9 @@ pub enum RingState {
     Stopped,
 }
 
-/// How the channel has turned in an event. Where it has turned off, a running ring goes on for the delay.
-#[derive(Clone, Copy)]
-pub(crate) enum Turn {
-    On,
-    Off { delay: u8 },
-}
-
 /// The smallest and the largest sample counted since they were last reset.
+// No `Option` where none was counted: the part resets both to values by which the next compare needs no case of its own,
+// and its registers show them.
 #[derive(Clone, Copy)]
 pub struct Extremes {
     pub(crate) smallest: Sample,
@@ -51,6 +46,15 @@ impl Extremes {
             largest: Sample::zero(),
         }
     }
+
+    /// A sample is counted.
+    pub(crate) fn count(&mut self, sample: Sample)
+        ensures smallest { self.new.smallest.value ≡ lesser sample.value self.old.smallest.value }
+        ensures largest { self.new.largest.value ≡ greater sample.value self.old.largest.value }
+    {
+        self.smallest = self.smallest.min(sample);
+        self.largest = self.largest.max(sample);
+    }
 }
 
 impl RingState {
@@ -58,33 +62,28 @@ impl RingState {
     pub(crate) fn is_moving(self) -> bool
         ensures { result ≡ moving self }
     {
-        match self {
-            RingState::Running | RingState::CountingDown(_) => true,
-            RingState::Stopped => false,
-        }
+        !matches!(self, RingState::Stopped)
     }
 
     /// One tick on: a ring that counts down counts one less, and stops at 0.
-    fn ticked(self) -> RingState
+    pub(crate) fn ticked(self) -> RingState
         ensures { result ≡ one_less_of self }
     {
         match self {
             RingState::CountingDown(left) if left <= 1 => RingState::Stopped,
             RingState::CountingDown(left) => RingState::CountingDown(left - 1),
-            RingState::Running => RingState::Running,
-            RingState::Stopped => RingState::Stopped,
+            state => state,
         }
     }
 
     /// The channel has turned off: a running ring goes on for the delay.
-    fn slowed(self, delay: u8) -> RingState
+    pub(crate) fn slowed(self, delay: u8) -> RingState
         ensures { result ≡ slowed_by delay self }
     {
         match self {
             RingState::Running if delay == 0 => RingState::Stopped,
             RingState::Running => RingState::CountingDown(delay),
-            RingState::CountingDown(left) => RingState::CountingDown(left),
-            RingState::Stopped => RingState::Stopped,
+            state => state,
         }
     }
 }
@@ -102,45 +101,12 @@ impl Monitor {
         }
     }
 
-    /// A sample comes: `counts` says whether the extremes take it in, `stores` whether the ring does.
-    pub(crate) fn take(&mut self, sample: Sample, counts: bool, stores: bool)
-        ensures { monitored self.new ≡ sampled_monitor counts stores sample.value (monitored self.old) }
+    /// The run bit is written as 1: a stopped ring runs.
+    pub(crate) fn wake(&mut self)
+        ensures { monitored self.new ≡ with_state (monitored self.old) (woken self.old.state) }
     {
-        self.latest = sample;
-        if counts {
-            if sample < self.extremes.smallest {
-                self.extremes.smallest = sample;
-            }
-            if self.extremes.largest < sample {
-                self.extremes.largest = sample;
-            }
-        }
-        if stores {
-            self.ring.store(sample);
-        }
-        self.state = self.state.ticked();
-    }
-
-    /// An event is over: `forget` resets the extremes, and the channel may have turned.
-    pub(crate) fn settle(&mut self, forget: bool, turn: Option<Turn>)
-        ensures { monitored self.new ≡ turned_monitor forget turn (monitored self.old) }
-    {
-        if forget {
-            self.extremes = Extremes::reset();
-        }
-        match turn {
-            Some(Turn::On) => self.state = RingState::Running,
-            Some(Turn::Off { delay }) => self.state = self.state.slowed(delay),
-            None => {}
-        }
-    }
-
-    /// The run bit is written: a stopped ring runs.
-    pub(crate) fn restart(&mut self, runs: bool)
-        ensures { monitored self.new ≡ with_state (monitored self.old) (if runs then woken self.old.state else self.old.state) }
-    {
-        if runs && self.state == RingState::Stopped {
-            self.state = RingState::Running
+        if self.state == RingState::Stopped {
+            self.state = RingState::Running;
         }
     }
 

@@ -4,17 +4,16 @@ ghost use Rattle.part.specs.Model.{model};
 ghost use Rattle.part.specs.Events.{step};
 ghost use Rattle.part.specs.Runs.{ran, after, told, history, Laws};
 
-use crate::Part;
 use crate::events::Pin;
+use crate::{Part, Samples};
 use registers::causes::Trip;
 use registers::pins::{Level, Pins};
-use samples::sample::Sample;
 use samples::signal::Signal;
 
 /// Whatever changes a part.
 #[derive(Clone, Copy)]
 pub enum Event {
-    Tick { current: Sample, voltage: Sample },
+    Tick(Samples),
     Pin(Pin, Level),
     Trip(Trip),
     Write { number: u8, byte: u8 },
@@ -27,7 +26,7 @@ impl Part {
         ensures { model self.new ≡ step (model self.old) (told event) }
     {
         match event {
-            Event::Tick { current, voltage } => self.tick(current, voltage),
+            Event::Tick(samples) => self.tick(samples),
             Event::Pin(pin, level) => self.pin(pin, level),
             Event::Trip(trip) => self.trip(trip),
             Event::Write { number, byte } => self.write(number, byte),

@@ -1,7 +1,7 @@
 //! One tick of 100 microseconds: a current and a voltage sample.
 ghost use Rattle.std.specs.Prelude.{◌≡◌, ◌&&◌};
-ghost use Rattle.part.specs.Model.{model};
-ghost use Rattle.part.specs.Tick.{counts as counts_of, stores as stores_of, beyond as beyond_of, positive as positive_of, acts as acts_of, critical as critical_of, guards as guards_of, latches as latches_of, next_count, next_good, measured};
+ghost use Rattle.part.specs.Model.{model, monitor, keeping};
+ghost use Rattle.part.specs.Tick.{counts as counts_of, stores as stores_of, beyond as beyond_of, positive as positive_of, acts as acts_of, critical as critical_of, guards as guards_of, latches as latches_of, next_count, next_good, sampled, measured};
 ghost use Rattle.part.specs.Events.{step, tick as ticks};
 ghost use Rattle.registers.specs.declared.causes.Compare.TheVariants.{Uv1, Uv2, Ov1, Ov2, Oi};
 
@@ -16,33 +16,30 @@ const LONGEST_COUNT: u16 = 4000;
 
 /// The samples of a tick.
 #[derive(Clone, Copy)]
-struct Samples {
-    current: Sample,
-    voltage: Sample,
+pub struct Samples {
+    pub current: Sample,
+    pub voltage: Sample,
 }
 
 impl Part {
     /// A tick brings a current and a voltage sample.
     #[tactic(auto, unfolding(crate::specs::Events::step))]
-    pub fn tick(&mut self, current: Sample, voltage: Sample)
-        ensures { model self.new ≡ step (model self.old) (ticks current.value voltage.value) }
+    pub fn tick(&mut self, samples: Samples)
+        ensures { model self.new ≡ step (model self.old) (ticks samples.current.value samples.voltage.value) }
     {
-        self.event(|part| part.measure(Samples { current, voltage }));
+        self.event(|part| part.measure(samples));
     }
 
     fn measure(&mut self, samples: Samples)
         ensures { model self.new ≡ measured (model self.old) samples.current.value samples.voltage.value }
     {
-        // both signals by name, as in `settle`: a loop over two would be no shorter
         let logs = self.logged(samples);
         let earlier = self.positives(samples);
         let count = self.next_count(samples);
         let good = self.next_good(samples);
         let latch = self.critical(samples) && latches(self.pins.prot);
-        let count_current = self.counts(Signal::Current);
-        let count_voltage = self.counts(Signal::Voltage);
-        let store_current = self.stores(Signal::Current);
-        let store_voltage = self.stores(Signal::Voltage);
+        self.take(Signal::Current, samples.current);
+        self.take(Signal::Voltage, samples.voltage);
         if latch {
             self.latched = true;
         }
@@ -50,10 +47,23 @@ impl Part {
         self.earlier = earlier;
         self.good_count = count;
         self.power_good = good;
-        self.current
-            .take(samples.current, count_current, store_current);
-        self.voltage
-            .take(samples.voltage, count_voltage, store_voltage);
+    }
+
+    /// A sample of a signal comes: the extremes may count it, and the ring may store it.
+    fn take(&mut self, signal: Signal, sample: Sample)
+        ensures { model self.new ≡ keeping (model self.old) signal (sampled (model self.old) signal sample.value (monitor signal (model self.old))) }
+    {
+        let counts = self.counts(signal);
+        let stores = self.stores(signal);
+        let monitor = self.monitor_mut(signal);
+        monitor.latest = sample;
+        if counts {
+            monitor.extremes.count(sample);
+        }
+        if stores {
+            monitor.ring.store(sample);
+        }
+        monitor.state = monitor.state.ticked();
     }
 
     fn counts(&self, signal: Signal) -> bool
@@ -68,6 +78,7 @@ impl Part {
         self.monitor(signal).state.is_moving() && self.settings.runs(signal)
     }
 
+    // A compare and the samples, here and below, and no struct: it would be made for one call.
     fn beyond(&self, compare: Compare, samples: Samples) -> bool
         ensures { result ≡ beyond_of (model self.now) samples.current.value samples.voltage.value compare }
     {
@@ -157,18 +168,12 @@ fn flags<F: Fn(Compare) -> bool>(test: F) -> Compares
 fn guards(prot: Strap) -> bool
     ensures { result ≡ guards_of prot }
 {
-    match prot {
-        Strap::Low | Strap::High => true,
-        Strap::Open => false,
-    }
+    matches!(prot, Strap::Low | Strap::High)
 }
 
 /// A critical compare that acts latches the part.
 fn latches(prot: Strap) -> bool
     ensures { result ≡ latches_of prot }
 {
-    match prot {
-        Strap::Low => true,
-        Strap::High | Strap::Open => false,
-    }
+    matches!(prot, Strap::Low)
 }

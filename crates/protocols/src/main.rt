@@ -36,7 +36,7 @@ fn agrees(rt: &HostRuntime, name: &str) -> anyhow::Result<bool> {
 }
 
 fn run(rt: &HostRuntime) -> anyhow::Result<()> {
-    // counted by hand, since each script may fail to be read
+    // counted by hand, since each script may fail to be read: a `try_fold` would be no plainer
     let mut agreed = 0u32;
     for name in NAMES {
         if agrees(rt, name)? {

@@ -1,6 +1,6 @@
 -- Two readings, one after the other, and what they say of two histories.
 use Rattle.std.proofs.Common.{◌≡◌, ℕ, Bool, true, false, cond, ◌&&◌, List, length, Ok, Err, Decides, sym, refl, ap, ◌∙◌, ⊎_elim, arith}
-use Rattle.std.proofs.lemmas.Bool.{cases_Bool, and_parts, and_from}
+use Rattle.std.proofs.lemmas.Bool.{cases_Bool, and_parts, and_from, eq-eqb}
 use Rattle.rig.specs.declared.Refusal.TheVariants.{Silence}
 use Rattle.rig.specs.Meaning.{Meaning, hears}
 use Rattle.history.specs.Histories.{reached}
@@ -30,6 +30,9 @@ module _ (m : Meaning) (a size : ℕ) (fit : sized size ≡ true) where
       (cases_Bool (hears m a))
 
 -- ---- both buffers fit, and x and y say which parts listen
+
+pub both_fit : (first second : ℕ) → first ≡ 270 → second ≡ 270 → both_sized first second ≡ true
+both_fit first second e f = and_from (sized first) (sized second) (eq-eqb first 270 e) (eq-eqb second 270 f)
 
 module _ (m : Meaning) (a : ℕ) (lb : List ℕ) (n : Meaning) (b : ℕ) (rb : List ℕ) (fit : both_sized (length lb) (length rb) ≡ true) where
   pub left_fits : sized (length lb) ≡ true

@@ -10,14 +10,15 @@ use Rattle.samples.specs.declared.ring.Resolution.{Resolution}
 use Rattle.samples.specs.declared.ring.Resolution.TheVariants.{Short, Full}
 use Rattle.samples.specs.declared.signal.Signal.{Signal}
 use Rattle.samples.specs.declared.signal.Signal.TheVariants.{Current, Voltage}
-use Rattle.registers.specs.Questions.{setting, bit, run_weight, resolution}
+use Rattle.registers.specs.Questions.{setting, resolution, resolution_of}
 use Rattle.part.specs.Model.{monitor}
 use Rattle.part.specs.Events.{step, block as read_out}
 use Rattle.rig.specs.Meaning.{Meaning, block, sized, ring_base, ring_at, base_of, hears, block_of, accepts, reaches, next, filled}
 use Rattle.rig.proofs.Bus.{same_meaning, block_accepted}
 use Rattle.reading.specs.Report.{as_told, ring_told}
 use Rattle.reading.specs.Reading.{ring_read}
-use Rattle.reading.specs.Readouts.{bit_resolution, ring_bytes, turn, told_at}
+use Rattle.samples.specs.History.{ring_bytes}
+use Rattle.reading.specs.Readouts.{turn, told_at}
 use Rattle.reading.proofs.Calls.{either_same, nothing_owed}
 
 module _ (xs bytes : List ℕ) where
@@ -66,8 +67,8 @@ length_first n r e = ap (λ k. length (mid_of 0 (k - 0) blank)) e ∙ at r
     at Full = refl
 
 -- the resolution by the registers that were read is the part's
-pub same_bits : (bytes : List ℕ) (m : Meaning) (s : Signal) (r : Resolution) → r ≡ bit_resolution bytes s → get_or bytes 0x3F 0 ≡ setting m.part.settings 0x3F → r ≡ resolution m.part.settings s
-same_bits bytes m s r is same = is ∙ ap (λ x. cond (bit (run_weight s) x) Short Full) same
+pub same_bits : (bytes : List ℕ) (m : Meaning) (s : Signal) (r : Resolution) → r ≡ resolution_of (get_or bytes 0x3F 0) s → get_or bytes 0x3F 0 ≡ setting m.part.settings 0x3F → r ≡ resolution m.part.settings s
+same_bits bytes m s r is same = is ∙ ap (λ x. resolution_of x s) same
 
 -- ---- a block of a whole ring, by a rig whose part listens
 

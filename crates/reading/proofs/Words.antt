@@ -1,7 +1,8 @@
 -- Samples as bytes: sixteen bits each, the high byte first.
-use Rattle.std.proofs.Common.{◌≡◌, ℕ, zero, suc, ◌+◌, ◌*◌, ◌/◌, ◌%◌, ◌<◌, ◌≤◌, ◌≢◌, List, [], ◌∷◌, ◌++◌, length, get_or, drop, sym, refl, ap, ◌∙◌, ⊎_elim, append_assoc, append-nil, arith}
+use Rattle.std.proofs.Common.{◌≡◌, ℕ, zero, suc, ◌+◌, ◌*◌, ◌/◌, ◌%◌, ◌<◌, ◌≤◌, List, [], ◌∷◌, ◌++◌, length, get_or, drop, sym, refl, ap, ◌∙◌, append_assoc, append-nil, arith}
 use Rattle.std.specs.Int.{w16, to_be_bytes}
-use Rattle.std.proofs.lemmas.Bool.{cases_eq}
+use Rattle.std.specs.List.{flat_map}
+use Rattle.std.proofs.lemmas.List.Concat.{flat_map-cons}
 use borrow.Rule.Slice.PartMut.{put_mid, post_of}
 use Rattle.std.proofs.lemmas.List.{take_at, drop_at, drop_all, length-append, length-drop}
 use Rattle.reading.specs.Report.{words}
@@ -27,21 +28,18 @@ low_word (x ∷ xs) (suc k) h = ap (λ j. get_or (words (x ∷ xs)) j 0) (two_on
     two_on : (k : ℕ) → 2 * suc k + 1 ≡ suc (suc (2 * k + 1))
     two_on k = omega arith
 
--- byte k, as two bytes are taken from a sample
-pub word_at : (xs : List ℕ) (k : ℕ) → k < 2 * length xs → get_or xs (k / 2) 0 < 65536 → get_or (to_be_bytes w16 (get_or xs (k / 2) 0)) (k % 2) 0 ≡ get_or (words xs) k 0
-word_at xs k h fits =
-    let x = get_or xs (k / 2) 0 in
-    ⊎_elim
-    (λ (even : k % 2 ≡ 0).
-    let at : 2 * (k / 2) ≡ k = omega arith in
-    let high : get_or (to_be_bytes w16 x) 0 0 ≡ x / 256 = omega arith in
-    rw even (high ∙ sym (high_word xs (k / 2) (omega arith)) ∙ ap (λ j. get_or (words xs) j 0) at))
-    (λ (odd : k % 2 ≢ 0).
-    let at : 2 * (k / 2) + 1 ≡ k = omega arith in
-    let one : k % 2 ≡ 1 = omega arith in
-    let low : get_or (to_be_bytes w16 x) 1 0 ≡ x % 256 = omega arith in
-    rw one (low ∙ sym (low_word xs (k / 2) (omega arith)) ∙ ap (λ j. get_or (words xs) j 0) at))
-    (cases_eq (k % 2) 0)
+-- the bytes of one sample after the other
+pub flattened : (xs : List ℕ) (ys : List (List ℕ)) → length ys ≡ length xs → ((i : ℕ) → i < length xs → get_or xs i 0 < 65536) → ((i : ℕ) → i < length xs → get_or ys i [] ≡ to_be_bytes w16 (get_or xs i 0)) → flat_map (λ y. y) ys ≡ words xs
+flattened [] [] n fits at = refl
+flattened [] (y ∷ ys) n fits at = absurd (omega (arith, n))
+flattened (x ∷ xs) [] n fits at = absurd (omega (arith, n))
+flattened (x ∷ xs) (y ∷ ys) n fits at =
+    let first : y ≡ x / 256 ∷ x % 256 ∷ [] = at 0 (omega arith) ∙ two_bytes x (fits 0 (omega arith)) in
+    let rest = flattened xs ys (omega (arith, n)) (λ i l. fits (suc i) (omega (arith, l))) (λ i l. at (suc i) (omega (arith, l))) in
+    flat_map-cons (λ z. z) y ys ∙ ap (λ l. l ++ flat_map (λ z. z) ys) first ∙ ap (λ l. x / 256 ∷ x % 256 ∷ l) rest
+  where
+    two_bytes : (x : ℕ) → x < 65536 → to_be_bytes w16 x ≡ x / 256 ∷ x % 256 ∷ []
+    two_bytes x fits = let high : x / 256 % 256 ≡ x / 256 = omega arith in ap (λ h. h ∷ x % 256 ∷ []) high
 
 -- three parts written one after the other into a buffer of their joint length
 pub three_parts : (xs a b c x y z : List ℕ) → length xs ≡ 270 → length x ≡ 70 → length y ≡ 100 → length z ≡ 100 → a ≡ x → b ≡ y → c ≡ z

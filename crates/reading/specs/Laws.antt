@@ -12,7 +12,7 @@ use Rattle.history.specs.Histories.{History, reached, and_then, Answers}
 use Rattle.history.specs.Points.{setting_point, prot_point, level_point, good_point, latest_point, smallest_point, largest_point, cause_point, short_point, ring_point, Agree}
 use Rattle.report.specs.View.{setting_in, prot_in, on_in, pol_in, good_in, latest_in, smallest_in, largest_in, cause_in, sample_in}
 use Rattle.reading.specs.Report.{report}
-use Rattle.reading.specs.Readouts.{ring_bytes}
+use Rattle.samples.specs.History.{ring_bytes}
 use Rattle.reading.specs.Reading.{sized}
 
 -- ---- when a reading finishes

@@ -7,15 +7,8 @@ use crate::{ReadingFault, read};
 use report::REPORT_BYTES;
 use rig::Rig;
 
-/// Each buffer can take a report.
-fn both_fit(left: &[u8], right: &[u8]) -> bool
-    ensures { result ≡ both_sized (length left.now) (length right.now) }
-{
-    left.len() == REPORT_BYTES && right.len() == REPORT_BYTES
-}
-
 /// The same bytes.
-fn same(left: &[u8], right: &[u8]) -> bool
+fn same(left: &[u8; REPORT_BYTES], right: &[u8; REPORT_BYTES]) -> bool
     ensures { Decides result (left.now ≡ right.now) }
 {
     left == right
@@ -40,9 +33,8 @@ pub fn compare<L: Rig, R: Rig>(
     ensures left_written { left_report.new ≡ first_buffer (L.Rig.meaning left.old) left_address left_report.old (length right_report.old) }
     ensures right_written { right_report.new ≡ second_buffer (L.Rig.meaning left.old) left_address (length left_report.old) (R.Rig.meaning right.old) right_address right_report.old }
 {
-    if !both_fit(left_report, right_report) {
-        return Err(ReadingFault::Size);
-    }
+    let left_report = left_report.as_mut_array().ok_or(ReadingFault::Size)?;
+    let right_report = right_report.as_mut_array().ok_or(ReadingFault::Size)?;
     read(left, left_address, left_report)?;
     read(right, right_address, right_report)?;
     Ok(same(left_report, right_report))

@@ -12,8 +12,9 @@ mod parts;
 mod rings;
 
 pub use comparing::compare;
+pub use gets::registers;
 use parts::Parts;
-use report::{REPORT_BYTES, WrongSize};
+use report::WrongSize;
 use rig::{Refusal, Rig};
 
 /// Why there is no report.
@@ -37,7 +38,7 @@ impl ReadingFault {
     }
 }
 
-// By hand, since `from_gives` says what it makes, and a clause of the console names it.
+// By hand, since `from_gives` says what it makes: proofs go by it at each `?`.
 impl From<Refusal> for ReadingFault {
     ghost from_gives = { λ e f. f ≡ Refused e };
 
@@ -57,9 +58,7 @@ pub fn read<R: Rig>(rig: &mut R, address: u8, report: &mut [u8]) -> Result<(), R
     ensures tells { OnOk result (Tells (R.Rig.meaning rig.old) report.new) }
     ensures goes_on { GoesOn (R.Rig.meaning rig.old) address (length report.old) (R.Rig.meaning rig.new) }
 {
-    if report.len() != REPORT_BYTES {
-        return Err(ReadingFault::Size);
-    }
+    let report = report.as_mut_array().ok_or(ReadingFault::Size)?;
     let parts = Parts::read(rig, address)?;
     parts.write(report);
     Ok(())

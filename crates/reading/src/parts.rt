@@ -1,12 +1,13 @@
 //! The three parts of a report: read one after the other, and then written.
-ghost use Rattle.std.specs.Prelude.{◌≡◌, ◌<◌, true, false, ◌++◌, length, MatchResult, slice_index};
+ghost use Rattle.std.specs.Prelude.{◌≡◌, true, false, ◌++◌, MatchResult};
+ghost use Rattle.std.specs.List.{flat_map};
 ghost use Rattle.samples.specs.declared.signal.Signal.TheVariants.{Current, Voltage};
 ghost use Rattle.rig.specs.Meaning.{get as gets, hears, next};
 ghost use Rattle.rig.specs.declared.Refusal.TheVariants.{Silence};
 ghost use Rattle.reading.specs.Report.{registers as all_registers, ring_told, words};
 ghost use Rattle.reading.specs.Reading.{ring_read};
 
-use crate::gets::read_all;
+use crate::gets::registers;
 use crate::rings::read_ring;
 use registers::register::COUNT;
 use report::{CURRENTS, REPORT_BYTES, VOLTAGES};
@@ -22,22 +23,11 @@ pub(crate) struct Parts {
     current: [u16; LENGTH],
 }
 
-// Byte by byte, since the proof knows a byte's place in the report: chunks of two would have to be told apart again.
-/// Byte `k` of the samples as sixteen bits each, the high byte first.
-fn sample_byte(samples: &[u16; LENGTH], k: usize) -> u8
-    requires { k < 100 }
-    ensures { result ≡ slice_index (words samples.now) k }
+/// The samples as sixteen bits each, the high byte first.
+fn sample_bytes(samples: &[u16; LENGTH]) -> [[u8; 2]; LENGTH]
+    ensures { flat_map (λ x. x) result ≡ words samples.now }
 {
-    samples[k / 2].to_be_bytes()[k % 2]
-}
-
-fn write_samples(samples: &[u16; LENGTH], out: &mut [u8])
-    requires { length out.old ≡ 100 }
-    ensures { out.new ≡ words samples.now }
-{
-    for (k, byte) in out.iter_mut().enumerate() {
-        *byte = sample_byte(samples, k);
-    }
+    samples.map(u16::to_be_bytes)
 }
 
 impl Parts {
@@ -45,7 +35,7 @@ impl Parts {
     pub(crate) fn read<R: Rig>(rig: &mut R, address: u8) -> Result<Parts, Refusal>
         ensures { MatchResult result (λ parts. (parts.registers ≡ all_registers (R.Rig.meaning rig.old).part) × (parts.voltage ≡ ring_told (R.Rig.meaning rig.old).part Voltage) × (parts.current ≡ ring_told (R.Rig.meaning rig.old).part Current) × (hears (R.Rig.meaning rig.old) address ≡ true) × (R.Rig.meaning rig.new ≡ ring_read (ring_read (R.Rig.meaning rig.old) Voltage) Current)) (λ e. (e ≡ Silence) × (hears (R.Rig.meaning rig.old) address ≡ false) × (R.Rig.meaning rig.new ≡ next (R.Rig.meaning rig.old) (gets address 0))) }
     {
-        let registers = read_all(rig, address)?;
+        let registers = registers(rig, address)?;
         let voltage = read_ring(rig, address, Signal::Voltage, &registers)?;
         let current = read_ring(rig, address, Signal::Current, &registers)?;
         Ok(Parts {
@@ -56,12 +46,11 @@ impl Parts {
     }
 
     /// The registers, the voltage ring and the current ring, one after the other.
-    pub(crate) fn write(&self, report: &mut [u8])
-        requires { length report.old ≡ 270 }
+    pub(crate) fn write(&self, report: &mut [u8; REPORT_BYTES])
         ensures { report.new ≡ self.now.registers ++ (words self.now.voltage ++ words self.now.current) }
     {
-        report[0..VOLTAGES].copy_from_slice(&self.registers);
-        write_samples(&self.voltage, &mut report[VOLTAGES..CURRENTS]);
-        write_samples(&self.current, &mut report[CURRENTS..REPORT_BYTES]);
+        report[..VOLTAGES].copy_from_slice(&self.registers);
+        report[VOLTAGES..CURRENTS].copy_from_slice(sample_bytes(&self.voltage).as_flattened());
+        report[CURRENTS..].copy_from_slice(sample_bytes(&self.current).as_flattened());
     }
 }

@@ -5,7 +5,7 @@ ghost use Rattle.registers.specs.Questions.{setting};
 ghost use Rattle.rig.specs.Meaning.{hears};
 ghost use Rattle.reading.specs.Report.{ring_told};
 ghost use Rattle.reading.specs.Reading.{ring_read};
-ghost use Rattle.reading.specs.Readouts.{told_at, ring_bytes};
+ghost use Rattle.reading.specs.Readouts.{told_at};
 
 use registers::register::COUNT;
 use registers::{bits, register};
@@ -14,16 +14,6 @@ use samples::place;
 use samples::ring::{LENGTH, Resolution};
 use samples::signal::Signal;
 use std::array;
-
-/// How many bytes the readout of a whole ring has.
-fn readout_bytes(resolution: Resolution) -> usize
-    ensures { result ≡ ring_bytes resolution }
-{
-    match resolution {
-        Resolution::Short => LENGTH,
-        Resolution::Full => 2 * LENGTH,
-    }
-}
 
 /// The sample in a readout that is `place` after the oldest, which comes last there.
 fn sample(readout: &[u8; LONGEST_BLOCK], resolution: Resolution, place: usize) -> u16
@@ -57,7 +47,7 @@ pub(crate) fn read_ring<R: Rig>(
 {
     let mut readout = [0; LONGEST_BLOCK];
     let resolution = bits::resolution(registers[register::CBUFRD_HIBYONLY as usize], signal);
-    let bytes = readout_bytes(resolution);
+    let bytes = resolution.ring_bytes();
     rig.block(address, base_of(signal), &mut readout[0..bytes])?;
     Ok(oldest_first(&readout, resolution))
 }

@@ -19,6 +19,12 @@ abbrev pub level_text : Level → List ℕ
 level_text level.Low = 108 ∷ 111 ∷ 119 ∷ []
 level_text level.High = 104 ∷ 105 ∷ 103 ∷ 104 ∷ []
 
+-- low, high, open
+abbrev pub strap_text : Strap → List ℕ
+strap_text Low = 108 ∷ 111 ∷ 119 ∷ []
+strap_text High = 104 ∷ 105 ∷ 103 ∷ 104 ∷ []
+strap_text Open = 111 ∷ 112 ∷ 101 ∷ 110 ∷ []
+
 -- by A1, then A0
 abbrev pub address_of : Strap → Strap → ℕ
 address_of Low Low = 0x3A

@@ -15,6 +15,10 @@ setting bytes n = slice_index bytes n
 abbrev pub bit : ℕ → ℕ → Bool
 bit weight byte = byte / weight % 2 == 1
 
+-- ten bits in two bytes: the high eight, then the low two, whatever else the second byte has
+abbrev pub ten_bits : ℕ → ℕ → ℕ
+ten_bits high low = high * 4 + low % 4
+
 -- in the run bits (0x19) and the resolution bits (0x3F): bit 1 current, bit 0 voltage
 abbrev pub run_weight : Signal → ℕ
 run_weight Current = 2
@@ -28,12 +32,12 @@ peak_weight Voltage = 2
 abbrev pub runs : List ℕ → Signal → Bool
 runs bytes s = bit (run_weight s) (setting bytes 0x19)
 
--- resolution 1 means high bytes only
-abbrev pub short : List ℕ → Signal → Bool
-short bytes s = bit (run_weight s) (setting bytes 0x3F)
+-- the resolution bits: 1 means high bytes only
+abbrev pub resolution_of : ℕ → Signal → Resolution
+resolution_of byte s = cond (bit (run_weight s) byte) Short Full
 
 abbrev pub resolution : List ℕ → Signal → Resolution
-resolution bytes s = cond (short bytes s) Short Full
+resolution bytes s = resolution_of (setting bytes 0x3F) s
 
 abbrev pub resets : List ℕ → Signal → Bool
 resets bytes s = bit (peak_weight s) (setting bytes 0x41)
@@ -48,9 +52,9 @@ en1 bytes = bit 1 (setting bytes 0x3B)
 abbrev pub en2 : List ℕ → Bool
 en2 bytes = bit 2 (setting bytes 0x3B)
 
--- a threshold: high eight bits, and low two in the register after
+-- a threshold, in a register and the one after
 abbrev pub pair : List ℕ → ℕ → ℕ
-pair bytes n = setting bytes n * 4 + setting bytes (n + 1) % 4
+pair bytes n = ten_bits (setting bytes n) (setting bytes (n + 1))
 
 abbrev pub threshold : List ℕ → Compare → ℕ
 threshold bytes Uv1 = pair bytes 0x1A

@@ -1,8 +1,7 @@
 //! Bits of the registers: the weight of each, a flag as a bit, a bit as a flag, and the ten bits of a pair of registers.
-ghost use Rattle.std.specs.Prelude.{◌≡◌, ◌+◌, ◌*◌, ◌%◌, ◌<◌, ◌≤◌, if◌then◌else◌};
-ghost use Rattle.samples.specs.declared.ring.Resolution.TheVariants.{Short, Full};
+ghost use Rattle.std.specs.Prelude.{◌≡◌, ◌<◌, ◌≤◌};
 ghost use Rattle.registers.specs.Causes.{weight};
-ghost use Rattle.registers.specs.Questions.{bit as bit_of, run_weight, peak_weight};
+ghost use Rattle.registers.specs.Questions.{bit as bit_of, run_weight, peak_weight, resolution_of, ten_bits};
 
 use samples::ring::Resolution;
 use samples::signal::Signal;
@@ -17,9 +16,9 @@ pub const WARNING: u8 = 0x01;
 pub const CRITICAL: u8 = 0x10;
 /// Overcurrent, in FAULT2.
 pub const OVERCURRENT: u8 = 0x01;
-/// The level of ON, in STATUS1; PROT takes the two bits from its weight on.
+/// The level of ON, in STATUS1.
 pub const ON: u8 = 0x01;
-/// The lower bit of PROT.
+/// The lower of the two bits of PROT.
 pub const PROT: u8 = 0x40;
 /// Power is good, in STATUS3.
 pub const POWER_GOOD: u8 = 0x01;
@@ -72,7 +71,7 @@ pub fn peak_bit(signal: Signal) -> u8
 
 /// How fine the signal's ring is read out, by the byte of the resolution bits.
 pub fn resolution(byte: u8, signal: Signal) -> Resolution
-    ensures { result ≡ (if bit_of (run_weight signal) byte then Short else Full) }
+    ensures { result ≡ resolution_of byte signal }
 {
     if is_set(byte, run_bit(signal)) {
         Resolution::Short
@@ -83,7 +82,7 @@ pub fn resolution(byte: u8, signal: Signal) -> Resolution
 
 /// The ten bits of a pair of registers: the high eight, and the low two bits of the second byte.
 pub fn ten_bits(high: u8, low: u8) -> u16
-    ensures value { result ≡ high * 4 + low % 4 }
+    ensures value { result ≡ ten_bits high low }
     ensures bound { result < 1024 }
 {
     u16::from(high) * 4 + u16::from(low) % 4

@@ -29,7 +29,7 @@ pub enum Cause {
 }
 
 /// One flag for each compare.
-#[derive(Clone, Copy)]
+#[derive(Clone, Copy, Default)]
 pub struct Compares {
     pub uv1: bool,
     pub uv2: bool,
@@ -39,7 +39,7 @@ pub struct Compares {
 }
 
 /// One flag for each cause: logged and not cleared since.
-#[derive(Clone, Copy)]
+#[derive(Clone, Copy, Default)]
 pub struct Logs {
     pub fast: bool,
     pub slow: bool,
@@ -51,13 +51,7 @@ impl Compares {
     pub fn none() -> Compares
         ensures { result ≡ no_compare }
     {
-        Compares {
-            uv1: false,
-            uv2: false,
-            ov1: false,
-            ov2: false,
-            oi: false,
-        }
+        Compares::default()
     }
 
     /// The flag of one compare.
@@ -79,11 +73,7 @@ impl Logs {
     pub fn none() -> Logs
         ensures { result ≡ nothing }
     {
-        Logs {
-            fast: false,
-            slow: false,
-            compares: Compares::none(),
-        }
+        Logs::default()
     }
 
     /// The byte of the register that logs trips.

@@ -1,11 +1,11 @@
 //! The pins that a part is made from: two-level inputs and three-level straps.
 ghost use Rattle.std.specs.Prelude.{◌≡◌, Some};
-ghost use Rattle.registers.specs.Pins.{high, level_of, level_text, bay};
+ghost use Rattle.registers.specs.Pins.{high, level_of, level_text, strap_text, bay};
 
 use std::fmt;
 
 /// A two-level pin.
-#[derive(Clone, Copy, PartialEq, Eq)]
+#[derive(Clone, Copy, PartialEq, Eq, Debug)]
 pub enum Level {
     Low,
     High,
@@ -16,14 +16,11 @@ impl Level {
     pub fn is_high(self) -> bool
         ensures { result ≡ high self }
     {
-        match self {
-            Level::Low => false,
-            Level::High => true,
-        }
+        matches!(self, Level::High)
     }
 }
 
-// By hand, since `from_gives` says what it makes, and clauses of other crates name it.
+// By hand, since `from_gives` says what it makes: proofs go by it wherever a level is made of a flag.
 impl From<bool> for Level {
     ghost from_gives = { λ flag level. level ≡ level_of flag };
 
@@ -50,6 +47,18 @@ pub enum Strap {
     Low,
     High,
     Open,
+}
+
+impl fmt::Display for Strap {
+    ghost output = { λ strap. Some (strap_text strap) };
+
+    fn fmt<W: fmt::Write>(&self, f: &mut fmt::Formatter<W>) -> fmt::Result {
+        match self {
+            Strap::Low => f.write_str("low"),
+            Strap::High => f.write_str("high"),
+            Strap::Open => f.write_str("open"),
+        }
+    }
 }
 
 /// The pins at power-up. Of these only ON and POL change later.

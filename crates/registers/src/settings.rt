@@ -6,7 +6,7 @@ mod bytes;
 use crate::register;
 
 /// One byte for each register, with no bit that the register does not keep; a register that is no setting holds 0.
-// No model: that the bytes keep within their masks is read off the type above, which a model would hide.
+// No model: that the bytes keep within their masks is read off the type, which a model would hide.
 #[derive(Drop)]
 pub struct Settings {
     bytes: [u8; register::COUNT],

@@ -152,6 +152,7 @@ pub(crate) const RESET: [u8; COUNT] = [
 ];
 
 /// The entry of a register; 0 past the end.
+// No `Option`: past the end no bit is kept and none is held, which is what 0 says to both callers.
 pub(crate) fn entry(table: &[u8], register: u8) -> u8
     ensures { result ≡ slice_index table.now register }
 {

@@ -1,7 +1,6 @@
 -- What the 270 bytes of a report say: seventy registers, then fifty samples of the voltage and fifty of the current.
-use Rattle.std.specs.Prelude.{ℕ, ◌+◌, ◌*◌, ◌/◌, ◌%◌, Bool, cond, ◌&&◌, List, Some, None, Option, ◌==◌, nat_lt, slice_index}
+use Rattle.std.specs.Prelude.{ℕ, ◌+◌, ◌*◌, ◌/◌, Bool, cond, ◌&&◌, List, Some, None, Option, ◌==◌, nat_lt, slice_index}
 use Rattle.samples.specs.declared.ring.Resolution.{Resolution}
-use Rattle.samples.specs.declared.ring.Resolution.TheVariants.{Short, Full}
 use Rattle.samples.specs.declared.signal.Signal.{Signal}
 use Rattle.samples.specs.declared.signal.Signal.TheVariants.{Current, Voltage}
 use Rattle.registers.specs.declared.causes.Trip.TheVariants.{Fast, Slow}
@@ -10,12 +9,12 @@ use Rattle.registers.specs.declared.causes.Cause.{Cause}
 use Rattle.registers.specs.declared.causes.Cause.TheVariants as cause
 use Rattle.registers.specs.declared.pins.Strap.{Strap}
 use Rattle.registers.specs.declared.pins.Strap.TheVariants.{Low, High, Open}
-use Rattle.registers.specs.Questions.{bit, run_weight}
+use Rattle.registers.specs.Questions.{bit, resolution_of, ten_bits}
 use Rattle.registers.specs.Rows.{listed}
 
--- ten bits in two registers: the high eight, then the low two, whatever else the second byte has
+-- ten bits in a register and the one after
 abbrev pub pair_in : List ℕ → ℕ → ℕ
-pair_in bytes n = slice_index bytes n * 4 + slice_index bytes (n + 1) % 4
+pair_in bytes n = ten_bits (slice_index bytes n) (slice_index bytes (n + 1))
 
 -- the first register of a signal's latest sample
 abbrev pub latest_place : Signal → ℕ
@@ -79,9 +78,8 @@ prot_in bytes =
     (cond (slice_index bytes 0x32 / 64 == 2) (Some Open)
     None))
 
--- 1 means high bytes only
 abbrev pub resolution_in : List ℕ → Signal → Resolution
-resolution_in bytes s = cond (bit (run_weight s) (slice_index bytes 0x3F)) Short Full
+resolution_in bytes s = resolution_of (slice_index bytes 0x3F) s
 
 -- where the samples of a signal begin
 abbrev pub ring_place : Signal → ℕ

@@ -7,6 +7,7 @@ pub mod view;
 
 use registers::register;
 use samples::ring;
+use samples::signal::Signal;
 pub use view::View;
 
 /// How many bytes a report has: a byte for each register, then two for each sample of either ring.
@@ -17,6 +18,9 @@ pub const VOLTAGES: usize = register::COUNT;
 
 /// Where the current samples begin, right after those.
 pub const CURRENTS: usize = VOLTAGES + 2 * ring::LENGTH;
+
+/// Both signals, in the order in which a report has their samples.
+pub const SIGNALS: [Signal; 2] = [Signal::Voltage, Signal::Current];
 
 /// The bytes are no report.
 #[derive(Clone, Copy, PartialEq, Eq, Debug)]

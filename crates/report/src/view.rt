@@ -1,6 +1,7 @@
 //! The viewer: each question is answered from the bytes of the report, where they lie.
 ghost use Rattle.std.specs.Prelude.{◌≡◌, ◌+◌, ◌*◌, ◌%◌, if◌then◌else◌, Some, None, ◌==◌, slice_index};
 ghost use Rattle.registers.specs.Pins.{level_of};
+ghost use Rattle.registers.specs.Questions.{ten_bits};
 ghost use Rattle.report.specs.View.{pair_in, smallest_place, largest_place, latest_in, none_in, smallest_in, largest_in, register_in, setting_in, cause_in, on_in, pol_in, good_in, prot_in, resolution_in, ring_place, sample_in};
 
 use crate::{CURRENTS, REPORT_BYTES, VOLTAGES};
@@ -53,7 +54,7 @@ impl<'a> View<'a> {
 
     /// The ten bits in two registers.
     fn pair(&self, high: u8, low: u8) -> u16
-        ensures { result ≡ slice_index self.now.bytes.now high * 4 + slice_index self.now.bytes.now low % 4 }
+        ensures { result ≡ ten_bits (slice_index self.now.bytes.now high) (slice_index self.now.bytes.now low) }
     {
         bits::ten_bits(self.byte(high), self.byte(low))
     }
@@ -78,26 +79,25 @@ impl<'a> View<'a> {
     pub fn latest(&self, signal: Signal) -> u16
         ensures { result ≡ latest_in self.now.bytes.now signal }
     {
-        match signal {
-            Signal::Current => self.pair(register::ADC_CS_MSB, register::ADC_CS_LSB),
-            Signal::Voltage => self.pair(register::ADC_MON_MSB, register::ADC_MON_LSB),
-        }
+        let (high, low) = match signal {
+            Signal::Current => (register::ADC_CS_MSB, register::ADC_CS_LSB),
+            Signal::Voltage => (register::ADC_MON_MSB, register::ADC_MON_LSB),
+        };
+        self.pair(high, low)
     }
 
     /// The signal's smallest sample; none where the extremes cover no sample.
     pub fn smallest(&self, signal: Signal) -> Option<u16>
         ensures { result ≡ smallest_in self.now.bytes.now signal }
     {
-        let (smallest, _) = self.extremes(signal)?;
-        Some(smallest)
+        self.extremes(signal).map(|(smallest, _)| smallest)
     }
 
     /// The signal's largest sample; none where the extremes cover no sample.
     pub fn largest(&self, signal: Signal) -> Option<u16>
         ensures { result ≡ largest_in self.now.bytes.now signal }
     {
-        let (_, largest) = self.extremes(signal)?;
-        Some(largest)
+        self.extremes(signal).map(|(_, largest)| largest)
     }
 
     /// The signal's smallest and largest sample. One alone does not tell: a sample can be 1023, and it can be 0.
@@ -114,12 +114,8 @@ impl<'a> View<'a> {
                 self.pair(register::MAX_MON_MSB, register::MAX_MON_LSB),
             ),
         };
-        // an `if`, since the test is for none
-        if smallest == NO_SMALLEST && largest == NO_LARGEST {
-            None
-        } else {
-            Some((smallest, largest))
-        }
+        let some = smallest != NO_SMALLEST || largest != NO_LARGEST;
+        some.then_some((smallest, largest))
     }
 
     /// The cause is logged.

@@ -1,12 +1,13 @@
 -- Calls on the bus: put, get and block.
-use Rattle.std.proofs.Common.{◌≡◌, ℕ, ◌-◌, Bool, true, false, cond, ◌&&◌, eqb, leb, sym, refl, ap, ◌∙◌, ⊎_elim, arith}
+use Rattle.std.proofs.Common.{◌≡◌, ℕ, ◌-◌, Bool, true, false, cond, ◌&&◌, eqb, leb, List, length, Ok, Err, Result, sym, refl, ap, ◌∙◌, ⊎_elim, arith}
 use Rattle.std.proofs.Math.Bool.{and_assoc}
 use Rattle.std.proofs.lemmas.Bool.{both_ways, cases_Bool, and_from}
 use Rattle.part.specs.Model.{Model, address}
 use Rattle.part.specs.Shown.{shown}
 use Rattle.rig.specs.declared.Refusal.{Refusal}
 use Rattle.rig.specs.declared.Refusal.TheVariants.{Length, Register, Silence}
-use Rattle.rig.specs.Meaning.{Meaning, Call, tick, pin, trip, outputs, put, get, block, Answer, done, byte, bytes, refused, sized, ring_base, hears, bus_answer, block_of, answer, accepts, reaches, does, next}
+use Rattle.rig.specs.Meaning.{Meaning, Call, tick, pin, trip, outputs, put, get, block, Answer, done, byte, bytes, refused, sized, ring_base, hears, bus_answer, block_of, answer, accepts, reaches, does, next, filled}
+use Rattle.rig.specs.Refusals.{told}
 pub use Rattle.rig.specs.Tries.{on_bus}
 
 -- the answer of a call that is accepted, and of one that is not
@@ -123,3 +124,19 @@ module _ (m n : Meaning) (a base k : ℕ) (fits : sized k ≡ true) (ring : ring
       same_meaning n (next m (block a base k))
       (e ∙ sym (ap (λ x. cond x (does m.part (block a base k)) m.part) block_accepted))
       (f ∙ sym (ap (λ x. cond (x && eqb a (address m.part)) (m.owed - 1) m.owed) past))
+
+-- a block is answered by what is in the buffer, and a refused one leaves the buffer: so it is filled as the meaning says
+bytes_told : (xs ys : List ℕ) (o : Result (Unit {0}) Refusal) → told (λ _. bytes ys) o ≡ bytes xs → ys ≡ xs
+bytes_told xs ys (Ok u) e = cc
+bytes_told xs ys (Err f) e = let z : ◌≡◌ {A = ℕ} 0 1 = cc in absurd (omega arith)
+
+pub block_filled : (m : Meaning) (a base : ℕ) (before after : List ℕ) (o : Result (Unit {0}) Refusal) → told (λ _. bytes after) o ≡ answer m (block a base (length before))
+    → (accepts m (block a base (length before)) ≡ false → after ≡ before) → after ≡ filled m a base before
+block_filled m a base before after o answers kept =
+    let c = block a base (length before) in
+    ⊎_elim
+    (λ (t : accepts m c ≡ true).
+    let good_answer : answer m c ≡ bytes (block_of m.part base (length before)) = answered_is m c refl ∙ ap (λ x. cond x (good m.part c) (bad c)) (sym (accepted_is m c refl) ∙ t) in
+    bytes_told (block_of m.part base (length before)) after o (answers ∙ good_answer) ∙ sym (ap (λ x. cond x (block_of m.part base (length before)) before) t))
+    (λ (t : accepts m c ≡ false). kept t ∙ sym (ap (λ x. cond x (block_of m.part base (length before)) before) t))
+    (cases_Bool (accepts m c))

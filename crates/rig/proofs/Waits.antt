@@ -6,9 +6,9 @@ use Rattle.rig.specs.declared.Refusal.{Refusal}
 use Rattle.rig.specs.declared.Refusal.TheVariants.{Sample, Length, Register, Silence}
 use Rattle.std.specs.Borrow.{MutBor}
 use Rattle.rig.specs.Refusals.{told, is_silence, silent}
-use Rattle.rig.specs.Meaning.{Meaning, Call, tick, pin, trip, outputs, put, get, block, Answer, refused, answer, accepts, reaches, does, next, block_of}
+use Rattle.rig.specs.Meaning.{Meaning, Call, Answer, refused, answer, accepts, reaches, does, next}
 use Rattle.rig.specs.Patience.{eased, again, Waits}
-use Rattle.rig.specs.Tries.{on_bus, buffer_after, Made, Makes}
+use Rattle.rig.specs.Tries.{on_bus, Made, Makes}
 use Rattle.rig.proofs.Bus.{good, bad, accepted_is, answered_is, silent_is, good_speaks}
 
 -- the rig after i tries of the call that all met silence, from m
@@ -168,26 +168,6 @@ waits m c r = waits_then m c r
 pub eased_none : (m : Meaning) (p : ℕ) → p ≡ 0 → eased m p ≡ m
 eased_none m p e = ap (λ q. record { part = m.part; owed = m.owed / (q + 1) }) e ∙ ap (λ n. record { part = m.part; owed = n }) (div-one m.owed)
 
--- a call that both take, or neither, leaves the same in the buffer
-buffer_alike : (n q : Meaning) (c : Call) (before : List ℕ) → n.part ≡ q.part → accepts n c ≡ accepts q c → buffer_after n c before ≡ buffer_after q c before
-buffer_alike n q (tick i v) before e t = refl
-buffer_alike n q (pin w l) before e t = refl
-buffer_alike n q (trip x) before e t = refl
-buffer_alike n q outputs before e t = refl
-buffer_alike n q (put a r x) before e t = refl
-buffer_alike n q (get a r) before e t = refl
-buffer_alike n q (block a base k) before e t = ap (λ p. cond (accepts n (block a base k)) (block_of p base k) before) e ∙ ap (λ x. cond x (block_of q.part base k) before) t
-
--- and one that is refused leaves the buffer
-buffer_kept : (m : Meaning) (c : Call) (before : List ℕ) → accepts m c ≡ false → buffer_after m c before ≡ before
-buffer_kept m (tick i v) before t = refl
-buffer_kept m (pin w l) before t = refl
-buffer_kept m (trip x) before t = refl
-buffer_kept m outputs before t = refl
-buffer_kept m (put a r x) before t = refl
-buffer_kept m (get a r) before t = refl
-buffer_kept m (block a base k) before t = ap (λ x. cond x (block_of m.part base k) before) t
-
 -- a result is silence exactly where its answer is
 silence_told : (e : Refusal) → is_silence e ≡ true → refused e ≡ refused Silence
 silence_told (Sample s) t = absurd (both_ways false refl t)
@@ -224,7 +204,7 @@ module _ {R X : Type 0} (meaning : R → Meaning) (runs : MutBor R → MutBor (L
   tried t =
       let mute : answer (meaning r.now) c ≡ refused Silence = sym made.answers ∙ met (λ x. good_answer x d.now) o t in
       record {
-        buffer = made.buffer ∙ buffer_kept (meaning r.now) c b.now ((one (meaning r.now) c does_it.bus).takes ∙ unaccepted m c does_it.bus (meaning r.now) mute) ∙ k.buffer;
+        buffer = made.kept ((one (meaning r.now) c does_it.bus).takes ∙ unaccepted m c does_it.bus (meaning r.now) mute) ∙ k.buffer;
         waited = subst (Waited m c (i + 1)) (sym made.leaves) (waited_more m c does_it.bus i (meaning r.now) k.waited mute);
       }
 
@@ -233,7 +213,7 @@ module _ {R X : Type 0} (meaning : R → Meaning) (runs : MutBor R → MutBor (L
   last p e = record {
     answers = made.answers ∙ e.answered;
     leaves = ap (λ n. eased n p) made.leaves ∙ e.after;
-    buffer = made.buffer ∙ buffer_alike (meaning r.now) (eased m p) c b.now k.waited.part e.taken ∙ ap (buffer_after (eased m p) c) k.buffer;
+    kept = λ t. made.kept (e.taken ∙ t) ∙ k.buffer;
   }
 
   pub tried_done : (p : ℕ) → i ≤ p → silent o ≡ false → Made c good_answer (eased m p) before o (eased (meaning s.now) p) d.now

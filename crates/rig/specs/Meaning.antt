@@ -14,7 +14,7 @@ use Rattle.part.specs.Events as part
 use Rattle.rig.specs.declared.Refusal.{Refusal}
 use Rattle.rig.specs.declared.Refusal.TheVariants.{Sample, Length, Register, Silence}
 
--- the address is the part's own, read off its straps
+-- a silence is an address that is not acknowledged; a part that still boots owes some. The address is the part's own, read off its straps
 pub record Meaning : Type 0 where
   pub part : Model
   pub owed : ℕ

@@ -20,6 +20,7 @@ pub struct Direct {
 
 impl Direct {
     /// A part that powers up with these pins and keeps silent for the hold-off.
+    // Pins and hold-off, here and at the wire, and no struct: it would be made for this one call.
     pub fn new(pins: Pins, hold_off: u8) -> Direct
         ensures { direct_meaning result ≡ record { part = powered pins; owed = hold_off } }
     {
@@ -51,8 +52,8 @@ impl Rig for Direct {
     ghost meaning = { direct_meaning };
 
     fn tick(&mut self, current: u16, voltage: u16) -> Result<(), Refusal> {
-        let (i, v) = samples_of(current, voltage)?;
-        self.part.tick(i, v);
+        let samples = samples_of(current, voltage)?;
+        self.part.tick(samples);
         Ok(())
     }
 

@@ -11,8 +11,8 @@ mod lent;
 mod patience;
 
 pub use direct::Direct;
-use part::Outputs;
 use part::events::Pin;
+use part::{Outputs, Samples};
 pub use patience::Patience;
 use registers::causes::Trip;
 use registers::pins::Level;
@@ -70,13 +70,13 @@ pub fn base_of(signal: Signal) -> u8
 }
 
 /// The samples of a tick, or its refusal: the current is tested first.
-pub fn samples_of(current: u16, voltage: u16) -> Result<(Sample, Sample), Refusal>
-    ensures samples { MatchResult result (λ p. (p.0.value ≡ current) × (p.1.value ≡ voltage)) (λ e. refused e ≡ tick_answer current voltage) }
+pub fn samples_of(current: u16, voltage: u16) -> Result<Samples, Refusal>
+    ensures samples { MatchResult result (λ s. (s.current.value ≡ current) × (s.voltage.value ≡ voltage)) (λ e. refused e ≡ tick_answer current voltage) }
     ensures taken { is_ok result ≡ (nat_le current 1023 && nat_le voltage 1023) }
 {
-    let i = Sample::new(current).ok_or(Refusal::Sample(Signal::Current))?;
-    let v = Sample::new(voltage).ok_or(Refusal::Sample(Signal::Voltage))?;
-    Ok((i, v))
+    let current = Sample::new(current).ok_or(Refusal::Sample(Signal::Current))?;
+    let voltage = Sample::new(voltage).ok_or(Refusal::Sample(Signal::Voltage))?;
+    Ok(Samples { current, voltage })
 }
 
 /// The longest block.

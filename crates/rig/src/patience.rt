@@ -50,6 +50,7 @@ impl<R: Rig> Patience<R> {
 impl<R: Rig> Rig for Patience<R> {
     ghost meaning = { λ s. eased (R.Rig.meaning s.below) s.patience };
 
+    // four calls that no bus carries are handed on, as a lent rig hands on all seven
     fn tick(&mut self, current: u16, voltage: u16) -> Result<(), Refusal> {
         self.below.tick(current, voltage)
     }

@@ -40,3 +40,8 @@ byte_at Full xs k = cond (k % 2 == 0) (sample_at xs (k / 2) / 4) (sample_at xs (
 -- a readout of n bytes
 abbrev pub readout : Resolution → List ℕ → ℕ → List ℕ
 readout r xs n = map (byte_at r xs) (range_with_len 0 n)
+
+-- how many bytes the readout of a whole ring has
+abbrev pub ring_bytes : Resolution → ℕ
+ring_bytes Short = 50
+ring_bytes Full = 100

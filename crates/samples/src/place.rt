@@ -15,6 +15,7 @@ pub fn next(place: usize, length: usize) -> usize
 }
 
 /// The place `steps` on from `place`, round the ring as often as that takes; 0 where the ring has no place.
+// No `Option`: the call can't fail, and every caller, whose ring has places, would have to unwrap it.
 pub fn advance(place: usize, steps: usize, length: usize) -> usize
     ensures { result ≡ onward place steps length }
 {

@@ -10,19 +10,19 @@ pub struct Sample {
 
 impl Sample {
     /// The sample of this value; none above full scale.
-    // No `TryFrom`: there is one way to fail, which `None` says. The test comes first, since no sample is made without it.
+    // No `TryFrom`: there is one way to fail, which `None` says.
     pub fn new(value: u16) -> Option<Sample>
         ensures { MatchOption result (1024 ≤ value) (λ s. (s.value ≡ value) × (value < 1024)) }
     {
-        if value < 1024 {
-            Some(Sample { value })
-        } else {
-            None
-        }
+        (value < 1024).then(
+            ||
+                requires { value < 1024 }
+            { Sample { value } },
+        )
     }
 
     /// The least sample.
-    // Two functions and no constants: a constant carries no clause.
+    // Two functions and no constants: a constant is checked against the type's bound only where it is passed on.
     pub fn zero() -> Sample
         ensures { result.value ≡ 0 }
     {

@@ -1,10 +1,10 @@
--- The column that `wrongAt` gives is the first wrong one.
+-- The column that `wrong_at` gives is the first wrong one.
 use Rattle.std.proofs.Common.{◌≡◌, ℕ, zero, suc, ◌+◌, ◌≤◌, true, false, eqb, ◌⊎◌, List, [], ◌∷◌, ◌++◌, length, get_or, take, drop, Some, sym, refl, ap, ◌∙◌, subst, inl, inr, ⊎_elim, arith, take-append-drop, length-take-le}
 use Rattle.std.proofs.lemmas.Bool.{both_ways, cases_Bool, cond-true, cond-false, cond_both, eqb-true, eqb-false}
 use Rattle.script.specs.declared.class.Class.{Class}
 use Rattle.script.specs.declared.class.Class.TheVariants.{Space, Bit, Digit, Hex}
 use Rattle.script.specs.Grammar.{admits, Part, one, number, Digits, Spells, Matches}
-use Rattle.script.specs.Steps.{run, wrongAt}
+use Rattle.script.specs.Steps.{run, wrong_at}
 use Rattle.script.proofs.Fronts.{Halts, halts_cons, offset, offset_is, halts_append, halts_same, halts_first}
 
 -- no digit begins a text of the parts, so a number before them ends where its digits end
@@ -118,14 +118,14 @@ no_digit : (n : ℕ) (xs : List ℕ) → run (suc n) xs ≡ 0 → admits Digit (
 no_digit n [] e = refl
 no_digit n (b ∷ xs) e = ⊎_elim (λ digit. absurd (omega (arith, sym (cond-true _ (suc (run n xs)) 0 digit) ∙ e))) (λ none. none) (cases_Bool (admits Digit b))
 
-pub column_found : (ps : List Part) → Decided ps → (k : ℕ) (xs : List ℕ) (c : ℕ) → wrongAt ps k xs ≡ Some c → HaltsAfter ps k xs c
+pub column_found : (ps : List Part) → Decided ps → (k : ℕ) (xs : List ℕ) (c : ℕ) → wrong_at ps k xs ≡ Some c → HaltsAfter ps k xs c
 column_found [] decided k [] c e = absurd (let z : ◌≡◌ {A = ℕ} 0 1 = cc in omega arith)
 column_found [] decided k (b ∷ xs) c e = (0, same_some k c e, end_halts b xs)
 column_found (one p ∷ ps) decided k [] c e = (0, same_some k c e, halts_first (admits p) _ (sample (one p ∷ ps)).1 (one_starts p ps) [] (begun_empty_byte p))
 column_found (one p ∷ ps) decided k (b ∷ xs) c e =
     ⊎_elim
     (λ good.
-    let on : wrongAt ps (k + 1) xs ≡ Some c = sym (cond-true _ _ _ good) ∙ e in
+    let on : wrong_at ps (k + 1) xs ≡ Some c = sym (cond-true _ _ _ good) ∙ e in
     let g = column_found ps decided (k + 1) xs c on in
     (suc g.0, omega (arith, g.1), halts_cons b (halts_same (λ y w. (b ∷ [], y, refl, (b, refl, good), w)) (λ y _ w. one_rest p ps b y w) g.2)))
     (λ bad. (0, same_some k c (sym (cond-false _ _ _ bad) ∙ e), halts_first (admits p) _ (sample (one p ∷ ps)).1 (one_starts p ps) (b ∷ xs) bad))
@@ -134,7 +134,7 @@ column_found (number ∷ ps) decided k xs c e =
     ⊎_elim
     (λ none. (0, same_some k c (sym (cond-true _ _ _ none) ∙ e), halts_first (admits Digit) _ (sample (number ∷ ps)).1 (number_starts ps) xs (no_digit 3 xs (eqb-true _ 0 none))))
     (λ some.
-    let on : wrongAt ps (k + run 4 xs) (drop (run 4 xs) xs) ≡ Some c = sym (cond-false _ _ _ some) ∙ e in
+    let on : wrong_at ps (k + run 4 xs) (drop (run 4 xs) xs) ≡ Some c = sym (cond-false _ _ _ some) ∙ e in
     let g = column_found ps decided.1 (k + run 4 xs) (drop (run 4 xs) xs) c on in
     (run 4 xs + g.0, omega (arith, g.1), after_number ps decided.0 xs g.0 (eqb-false _ 0 some) g.2))
     (cases_Bool (eqb (run 4 xs) 0))

@@ -3,7 +3,7 @@ use Rattle.std.proofs.Common.{◌≡◌, ℕ, zero, suc, ◌≤◌, List, [], �
 use Rattle.std.proofs.lemmas.Bool.{both_ways, eqb-true}
 use Rattle.script.specs.declared.class.Class.TheVariants.{Space, Digit}
 use Rattle.script.specs.Grammar.{admits, Part, one, number, Matches, rule, Right, FirstWrong, Wrong}
-use Rattle.script.specs.Steps.{wrongAt}
+use Rattle.script.specs.Steps.{wrong_at}
 use Rattle.std.proofs.lemmas.List.{drop_all}
 use Rattle.script.proofs.Fronts.{halts_cons, halts_same, first_wrong, short_line}
 use Rattle.script.proofs.Steps.{handed_on}
@@ -51,7 +51,7 @@ wrong_letter b xs e =
         let z : ◌≡◌ {A = ℕ} 0 1 = cc in
         omega arith
 
-pub wrong_rest : (b : ℕ) (ps : List Part) → rule b ≡ Some ps → Decided ps → (xs : List ℕ) (c : ℕ) → wrongAt ps 2 xs ≡ Some c → FirstWrong Right (b ∷ xs) c
+pub wrong_rest : (b : ℕ) (ps : List Part) → rule b ≡ Some ps → Decided ps → (xs : List ℕ) (c : ℕ) → wrong_at ps 2 xs ≡ Some c → FirstWrong Right (b ∷ xs) c
 wrong_rest b ps e decided xs c w =
     let g = column_found ps decided 2 xs c w in
     first_wrong
@@ -59,9 +59,9 @@ wrong_rest b ps e decided xs c w =
     (omega (arith, g.1))
 
 -- the same where the letter, the column and the bytes are known by equations, and a `?` hands the column on
-pub letter_wrong : {T : Type 0} (P : T → Type 0) {b : ℕ} (at : ℕ) → b ≡ at → (ps : List Part) → rule at ≡ Some ps → Decided ps → {k : ℕ} {xs ys : List ℕ} {e : ℕ} (r : Result T ℕ) → k ≡ 2 → xs ≡ ys → wrongAt ps k xs ≡ Some e → IsErrAnd r (λ y. y ≡ e) → MatchResult r P (λ c. FirstWrong Right (b ∷ ys) c)
+pub letter_wrong : {T : Type 0} (P : T → Type 0) {b : ℕ} (at : ℕ) → b ≡ at → (ps : List Part) → rule at ≡ Some ps → Decided ps → {k : ℕ} {xs ys : List ℕ} {e : ℕ} (r : Result T ℕ) → k ≡ 2 → xs ≡ ys → wrong_at ps k xs ≡ Some e → IsErrAnd r (λ y. y ≡ e) → MatchResult r P (λ c. FirstWrong Right (b ∷ ys) c)
 letter_wrong P {b} at is ps ruled decided {e = e} r second same w by =
-    handed_on P _ e r by (wrong_rest b ps (ap rule is ∙ ruled) decided _ e ((λ i. wrongAt ps (sym second i) (sym same i)) ∙ w))
+    handed_on P _ e r by (wrong_rest b ps (ap rule is ∙ ruled) decided _ e ((λ i. wrong_at ps (sym second i) (sym same i)) ∙ w))
 
 pub empty_wrong : (line : List ℕ) → length line ≡ 0 → Wrong line 1
 empty_wrong line none = short_line (omega arith) (subst (λ l. FirstWrong Right l 1) (sym (drop_all 0 line (omega arith))) wrong_empty)

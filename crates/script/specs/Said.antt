@@ -4,7 +4,7 @@ use Rattle.script.specs.declared.class.Class.TheVariants.{Bit, Hex}
 use Rattle.script.specs.declared.line.Field.{Field}
 use Rattle.script.specs.declared.line.Line.{Line}
 use Rattle.script.specs.declared.line.Line.TheVariants.{Tick, On, Pol, Fast, Slow, Write, Get, Read}
-use Rattle.script.specs.Grammar.{one, number, Spells, Matches, Right, Wrong}
+use Rattle.script.specs.Grammar.{one, number, Spells, Matches, Right, WrongOf}
 
 abbrev pub text : Field → List ℕ
 text f = f.text.now
@@ -49,9 +49,10 @@ Said l line = (line ≡ spelling l) × Spelled l × Placed l
 abbrev pub SaidIsRight : Type 0
 SaidIsRight = (l : Line) (line : List ℕ) → Said l line → Right line
 
--- a line has one wrong column at most
-abbrev pub OneColumn : Type 0
-OneColumn = (line : List ℕ) (c d : ℕ) → Wrong line c → Wrong line d → c ≡ d
+-- of right lines of either kind: a line has one wrong column at most
+abbrev pub OneColumn : (List ℕ → Type 0) → Type 0
+OneColumn right = (line : List ℕ) (c d : ℕ) → WrongOf right line c → WrongOf right line d → c ≡ d
 
-abbrev pub RightNotWrong : Type 0
-RightNotWrong = (line : List ℕ) (c : ℕ) → Wrong line c → Right line → ⊥
+-- and a right one has none
+abbrev pub RightNotWrong : (List ℕ → Type 0) → Type 0
+RightNotWrong right = (line : List ℕ) (c : ℕ) → WrongOf right line c → right line → ⊥

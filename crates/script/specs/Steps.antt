@@ -1,10 +1,12 @@
--- What the steps of the reader promise, each over the bytes that are left and the column of the first of them.
+-- What the steps of the reader promise. Each is over what is left of the line, r; mostly it makes a field f and leaves r'.
 use Rattle.std.specs.Prelude.{◌≡◌, ℕ, zero, suc, ◌+◌, ◌<◌, true, cond, List, [], ◌∷◌, ◌++◌, length, take, drop, Some, None, Option, ◌==◌, slice_index}
 use Rattle.script.specs.declared.class.Class.{Class}
 use Rattle.script.specs.declared.class.Class.TheVariants.{Digit, Hex}
 use Rattle.script.specs.declared.class.Class.TheVariants as class
 use Rattle.script.specs.declared.kind.Kind.{Kind}
 use Rattle.script.specs.declared.kind.Kind.TheVariants.{Bit, Number, Byte}
+use Rattle.script.specs.declared.line.Field.{Field}
+use Rattle.script.specs.declared.rest.Rest.{Rest}
 use Rattle.script.specs.Grammar.{admits, Part, one, number, Matches}
 
 -- how many digits the bytes begin with, n at most
@@ -14,46 +16,50 @@ run (suc n) [] = 0
 run (suc n) (b ∷ bs) = cond (admits Digit b) (suc (run n bs)) 0
 
 -- where bytes that should match the parts go wrong, if the first of them has column k
-abbrev pub wrongAt : List Part → ℕ → List ℕ → Option ℕ
-wrongAt [] k [] = None
-wrongAt [] k (b ∷ bs) = Some k
-wrongAt (one c ∷ ps) k [] = Some k
-wrongAt (one c ∷ ps) k (b ∷ bs) = cond (admits c b) (wrongAt ps (k + 1) bs) (Some k)
-wrongAt (number ∷ ps) k bs = cond (run 4 bs == 0) (Some k) (wrongAt ps (k + run 4 bs) (drop (run 4 bs) bs))
+abbrev pub wrong_at : List Part → ℕ → List ℕ → Option ℕ
+wrong_at [] k [] = None
+wrong_at [] k (b ∷ bs) = Some k
+wrong_at (one c ∷ ps) k [] = Some k
+wrong_at (one c ∷ ps) k (b ∷ bs) = cond (admits c b) (wrong_at ps (k + 1) bs) (Some k)
+wrong_at (number ∷ ps) k bs = cond (run 4 bs == 0) (Some k) (wrong_at ps (k + run 4 bs) (drop (run 4 bs) bs))
 
--- one byte of the class was passed: from column k and bytes bs to column k' and bytes bs'
-pub record Passed (c : Class) (k : ℕ) (bs : List ℕ) (k' : ℕ) (bs' : List ℕ) : Type 0 where
-  pub first : admits c (slice_index bs 0) ≡ true
-  pub cut : bs ≡ slice_index bs 0 ∷ bs'
-  pub moved : k' ≡ k + 1
-  pub left : length bs ≡ length bs' + 1
+-- where what is left of a line goes wrong
+abbrev pub wrong_in : List Part → Rest → Option ℕ
+wrong_in ps r = wrong_at ps r.column r.bytes.now
+
+-- one byte of the class was passed
+pub record Passed (c : Class) (r r' : Rest) : Type 0 where
+  pub first : admits c (slice_index r.bytes.now 0) ≡ true
+  pub cut : r.bytes.now ≡ slice_index r.bytes.now 0 ∷ r'.bytes.now
+  pub moved : r'.column ≡ r.column + 1
+  pub left : length r.bytes.now ≡ length r'.bytes.now + 1
 
 -- a number was passed, and its field made
-pub record Counted (k : ℕ) (bs : List ℕ) (column : ℕ) (text : List ℕ) (k' : ℕ) (bs' : List ℕ) : Type 0 where
-  pub some : 0 < run 4 bs
-  pub front : text ≡ take (run 4 bs) bs
-  pub cut : bs' ≡ drop (run 4 bs) bs
-  pub placed : column ≡ k
-  pub moved : k' ≡ k + run 4 bs
-  pub left : length bs ≡ length bs' + run 4 bs
+pub record Counted (r : Rest) (f : Field) (r' : Rest) : Type 0 where
+  pub some : 0 < run 4 r.bytes.now
+  pub front : f.text.now ≡ take (run 4 r.bytes.now) r.bytes.now
+  pub cut : r'.bytes.now ≡ drop (run 4 r.bytes.now) r.bytes.now
+  pub placed : f.column ≡ r.column
+  pub moved : r'.column ≡ r.column + run 4 r.bytes.now
+  pub left : length r.bytes.now ≡ length r'.bytes.now + run 4 r.bytes.now
 
 -- whatever should follow the part, the bytes go wrong at their first
-pub record Fails (p : Part) (k : ℕ) (bs : List ℕ) (c : ℕ) : Type 0 where
-  pub column : c ≡ k
-  pub fails : (ps : List Part) → wrongAt (p ∷ ps) k bs ≡ Some k
+pub record Fails (p : Part) (r : Rest) (c : ℕ) : Type 0 where
+  pub column : c ≡ r.column
+  pub fails : (ps : List Part) → wrong_in (p ∷ ps) r ≡ Some r.column
 
 -- two hexadecimal digits were passed, and their field made
-pub record Paired (k : ℕ) (bs : List ℕ) (column : ℕ) (text : List ℕ) (k' : ℕ) (bs' : List ℕ) : Type 0 where
-  pub spelled : Matches (one Hex ∷ one Hex ∷ []) text
-  pub cut : bs ≡ text ++ bs'
-  pub placed : column ≡ k
-  pub moved : k' ≡ k + 2
-  pub left : length bs ≡ length bs' + 2
-  pub on : (ps : List Part) → wrongAt (one Hex ∷ one Hex ∷ ps) k bs ≡ wrongAt ps k' bs'
+pub record Paired (r : Rest) (f : Field) (r' : Rest) : Type 0 where
+  pub spelled : Matches (one Hex ∷ one Hex ∷ []) f.text.now
+  pub cut : r.bytes.now ≡ f.text.now ++ r'.bytes.now
+  pub placed : f.column ≡ r.column
+  pub moved : r'.column ≡ r.column + 2
+  pub left : length r.bytes.now ≡ length r'.bytes.now + 2
+  pub on : (ps : List Part) → wrong_in (one Hex ∷ one Hex ∷ ps) r ≡ wrong_in ps r'
 
 -- whatever should follow two hexadecimal digits, the bytes go wrong at one of the two
-pub record Unpaired (k : ℕ) (bs : List ℕ) (c : ℕ) : Type 0 where
-  pub fails : (ps : List Part) → wrongAt (one Hex ∷ one Hex ∷ ps) k bs ≡ Some c
+pub record Unpaired (r : Rest) (c : ℕ) : Type 0 where
+  pub fails : (ps : List Part) → wrong_in (one Hex ∷ one Hex ∷ ps) r ≡ Some c
 
 -- the bytes of a field: their class, and the least and the most of them
 abbrev pub class_of : Kind → Class
@@ -77,40 +83,40 @@ parts Number = number ∷ []
 parts Byte = one Hex ∷ one Hex ∷ []
 
 -- one byte was passed, and made a field
-pub record Single (c : Class) (k : ℕ) (bs : List ℕ) (column : ℕ) (text : List ℕ) (k' : ℕ) (bs' : List ℕ) : Type 0 where
-  pub passed : Passed c k bs k' bs'
-  pub front : text ≡ take 1 bs
-  pub placed : column ≡ k
+pub record Single (c : Class) (r : Rest) (f : Field) (r' : Rest) : Type 0 where
+  pub passed : Passed c r r'
+  pub front : f.text.now ≡ take 1 r.bytes.now
+  pub placed : f.column ≡ r.column
 
 -- how a field of each kind is read, and where it is missed
-abbrev pub Reads : Kind → ℕ → List ℕ → ℕ → List ℕ → ℕ → List ℕ → Type 0
-Reads Bit k bs column text k' bs' = Single class.Bit k bs column text k' bs'
-Reads Number k bs column text k' bs' = Counted k bs column text k' bs'
-Reads Byte k bs column text k' bs' = Paired k bs column text k' bs'
+abbrev pub Reads : Kind → Rest → Field → Rest → Type 0
+Reads Bit r f r' = Single class.Bit r f r'
+Reads Number r f r' = Counted r f r'
+Reads Byte r f r' = Paired r f r'
 
-abbrev pub Misses : Kind → ℕ → List ℕ → ℕ → Type 0
-Misses Bit k bs c = Fails (one class.Bit) k bs c
-Misses Number k bs c = Fails number k bs c
-Misses Byte k bs c = Unpaired k bs c
+abbrev pub Misses : Kind → Rest → ℕ → Type 0
+Misses Bit r c = Fails (one class.Bit) r c
+Misses Number r c = Fails number r c
+Misses Byte r c = Unpaired r c
 
--- a field of the kind was read: from column k and bytes bs to column k' and bytes bs'
-pub record Taken (kind : Kind) (k : ℕ) (bs : List ℕ) (column : ℕ) (text : List ℕ) (k' : ℕ) (bs' : List ℕ) : Type 0 where
-  pub reads : Reads kind k bs column text k' bs'
+-- a field of the kind was read
+pub record Taken (kind : Kind) (r : Rest) (f : Field) (r' : Rest) : Type 0 where
+  pub reads : Reads kind r f r'
 
 -- no field of the kind stands there
-pub record Missed (kind : Kind) (k : ℕ) (bs : List ℕ) (c : ℕ) : Type 0 where
-  pub misses : Misses kind k bs c
+pub record Missed (kind : Kind) (r : Rest) (c : ℕ) : Type 0 where
+  pub misses : Misses kind r c
 
 -- one field was read, after a space, and nothing is left
-pub record Alone (kind : Kind) (k : ℕ) (bs : List ℕ) (column : ℕ) (text : List ℕ) : Type 0 where
-  pub whole : bs ≡ 32 ∷ text
-  pub spelled : Matches (parts kind) text
-  pub placed : column ≡ k + 1
+pub record Alone (kind : Kind) (r : Rest) (f : Field) : Type 0 where
+  pub whole : r.bytes.now ≡ 32 ∷ f.text.now
+  pub spelled : Matches (parts kind) f.text.now
+  pub placed : f.column ≡ r.column + 1
 
 -- two fields were read, each after a space, and nothing is left
-pub record Both (kind : Kind) (k : ℕ) (bs : List ℕ) (column₁ : ℕ) (text₁ : List ℕ) (column₂ : ℕ) (text₂ : List ℕ) : Type 0 where
-  pub whole : bs ≡ 32 ∷ (text₁ ++ (32 ∷ text₂))
-  pub first : Matches (parts kind) text₁
-  pub second : Matches (parts kind) text₂
-  pub placed₁ : column₁ ≡ k + 1
-  pub placed₂ : column₂ ≡ length text₁ + (k + 2)
+pub record Both (kind : Kind) (r : Rest) (f g : Field) : Type 0 where
+  pub whole : r.bytes.now ≡ 32 ∷ (f.text.now ++ (32 ∷ g.text.now))
+  pub first : Matches (parts kind) f.text.now
+  pub second : Matches (parts kind) g.text.now
+  pub placed₁ : f.column ≡ r.column + 1
+  pub placed₂ : g.column ≡ length f.text.now + (r.column + 2)

@@ -1,13 +1,14 @@
 //! The commands of a script, with the values of their fields.
+use registers::pins::Level;
 
 #[derive(Clone, Copy, PartialEq, Eq, Debug)]
 pub enum Command {
     /// A pair of samples.
     Tick { current: u16, voltage: u16 },
     /// The level of the ON pin.
-    On(bool),
+    On(Level),
     /// The level of the POL pin.
-    Pol(bool),
+    Pol(Level),
     /// A trip of the fast comparator.
     Fast,
     /// A trip of the slow comparator.

@@ -3,6 +3,7 @@ ghost use Rattle.std.specs.Prelude.{◌≡◌, ◌+◌, ◌-◌, ◌*◌, ◌&&�
 ghost use Rattle.std.specs.Str.Parse.{digits_value};
 ghost use Rattle.script.specs.declared.class.Class.TheVariants.{Digit};
 ghost use Rattle.script.specs.Grammar.{admits, FirstRight, FirstWrong, FirstLineWrong};
+ghost use Rattle.script.specs.Said.{OneColumn, RightNotWrong};
 
 use crate::kind::MOST_DIGITS;
 use crate::line::LONGEST;
@@ -22,7 +23,7 @@ fn number(digits: &[u8]) -> Result<u8, usize>
     if digits.is_empty() {
         return Err(3);
     }
-    // a `for`, since it ends early at a column
+    // a `for`: `try_fold` would carry the column through each step, and read no plainer
     let mut n: u8 = 0;
     for (i, digit) in digits.iter().enumerate() {
         if i == MOST_DIGITS {
@@ -35,9 +36,11 @@ fn number(digits: &[u8]) -> Result<u8, usize>
 
 /// The hold-off that the first line says, or its first wrong column.
 // The error is a column and no type of its own: the column is all that is said of a wrong line.
-#[tactic(auto, using(crate::proofs::Opening::wrong_letter, crate::proofs::Opening::wrong_space, std::proofs::lemmas::List::get_or_past))]
+#[tactic(auto, using(crate::proofs::Opening::wrong_letter, crate::proofs::Opening::wrong_space, crate::proofs::Stands::first_one_wrong, crate::proofs::Stands::first_wrong_right, std::proofs::lemmas::List::get_or_past))]
 pub fn hold_off(line: &[u8]) -> Result<u8, usize>
-    ensures { MatchResult result (λ n. FirstRight line.now × (n ≡ digits_value 10 (drop 2 line.now))) (λ k. FirstLineWrong line.now k) }
+    ensures column { OneColumn FirstRight }
+    ensures apart { RightNotWrong FirstRight }
+    ensures said { MatchResult result (λ n. FirstRight line.now × (n ≡ digits_value 10 (drop 2 line.now))) (λ k. FirstLineWrong line.now k) }
 {
     if line.len() > LONGEST {
         return Err(LONGEST + 1);

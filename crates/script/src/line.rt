@@ -77,8 +77,8 @@ fn body(letter: char, after: &[u8]) -> Result<Line<'_>, usize>
 pub fn parse(line: &[u8]) -> Result<Line<'_>, usize>
     ensures read { MatchResult result (λ l. Said l line.now) (λ c. Wrong line.now c) }
     ensures right { SaidIsRight }
-    ensures column { OneColumn }
-    ensures apart { RightNotWrong }
+    ensures column { OneColumn Right }
+    ensures apart { RightNotWrong Right }
 {
     if line.len() > LONGEST {
         return Err(LONGEST + 1);

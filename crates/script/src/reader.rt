@@ -2,6 +2,7 @@
 ghost use Rattle.std.specs.Prelude.{◌≡◌, [], ◌∷◌, MatchResult, ◌==◌, slice_index};
 ghost use Rattle.std.specs.Str.Parse.{digits_value};
 ghost use Rattle.std.specs.Str.{IsAscii};
+ghost use Rattle.registers.specs.Pins.{level_of};
 ghost use Rattle.script.specs.declared.class.Class.TheVariants.{Bit, Hex};
 ghost use Rattle.script.specs.Grammar.{one, number, Spells, Matches, Right, Wrong};
 ghost use Rattle.script.specs.Said.{Spelled, spelling};
@@ -9,6 +10,7 @@ ghost use Rattle.script.specs.Commands.{meant};
 
 use crate::command::Command;
 use crate::line::{Line, parse};
+use registers::pins::Level;
 
 /// The bytes of a field as text.
 fn ascii(text: &[u8]) -> &str
@@ -35,11 +37,11 @@ fn hex(text: &[u8]) -> u8
 }
 
 /// The level that a bit says.
-fn level(text: &[u8]) -> bool
+fn level(text: &[u8]) -> Level
     requires { Spells (one Bit) text.now }
-    ensures { result ≡ (slice_index text.now 0 == 49) }
+    ensures { result ≡ level_of (slice_index text.now 0 == 49) }
 {
-    text[0] == b'1'
+    Level::from(text[0] == b'1')
 }
 
 /// The command of a line whose fields are spelled right.

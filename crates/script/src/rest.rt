@@ -2,7 +2,6 @@
 ghost use Rattle.std.specs.Prelude.{◌≡◌, ◌+◌, ◌≤◌, [], ◌∷◌, ◌++◌, length, take, drop, Some, MatchResult, take_while};
 ghost use Rattle.script.specs.declared.class.Class.TheVariants.{Space};
 ghost use Rattle.script.specs.Grammar.{admits, one};
-ghost use Rattle.script.specs.Steps.{wrongAt, parts, Passed, Fails, Taken, Missed, Alone, Both};
 
 use crate::class::Class;
 use crate::kind::Kind;
@@ -29,6 +28,9 @@ fn run_length(bytes: &[u8], class: Class, most: usize) -> usize
 }
 
 impl<'a> Rest<'a> {
+    // In here, since they name the struct: the struct, which has a ghost field, imports what is named at the head.
+    ghost use Rattle.script.specs.Steps.{wrong_in, parts, Passed, Fails, Taken, Missed, Alone, Both};
+
     /// What stands after a line's letter.
     pub(crate) fn after_letter(bytes: &'a [u8]) -> Self
         requires { length bytes.now ≤ 15 }
@@ -55,7 +57,7 @@ impl<'a> Rest<'a> {
 
     /// Passes one byte of the class; the error is the column where it is wanted.
     fn pass(&mut self, class: Class) -> Result<(), usize>
-        ensures { MatchResult result (λ _. Passed class self.old.column self.old.bytes.now self.new.column self.new.bytes.now) (λ c. Fails (one class) self.old.column self.old.bytes.now c) }
+        ensures { MatchResult result (λ _. Passed class self.old self.new) (λ c. Fails (one class) self.old c) }
     {
         match self.bytes {
             [byte, after @ ..] if class.admits(*byte) => {
@@ -69,7 +71,7 @@ impl<'a> Rest<'a> {
 
     /// A field of the kind; the error is the column of the first byte that it misses.
     fn field(&mut self, kind: Kind) -> Result<Field<'a>, usize>
-        ensures { MatchResult result (λ f. Taken kind self.old.column self.old.bytes.now f.column f.text.now self.new.column self.new.bytes.now) (λ c. Missed kind self.old.column self.old.bytes.now c) }
+        ensures { MatchResult result (λ f. Taken kind self.old f self.new) (λ c. Missed kind self.old c) }
     {
         let (class, least, most) = kind.shape();
         let count = run_length(self.bytes, class, most);
@@ -81,7 +83,7 @@ impl<'a> Rest<'a> {
 
     /// A space and a field, and nothing more.
     pub(crate) fn one_field(mut self, kind: Kind) -> Result<Field<'a>, usize>
-        ensures { MatchResult result (λ f. Alone kind self.entry.column self.entry.bytes.now f.column f.text.now) (λ c. wrongAt (one Space ∷ parts kind) self.entry.column self.entry.bytes.now ≡ Some c) }
+        ensures { MatchResult result (λ f. Alone kind self.entry f) (λ c. wrong_in (one Space ∷ parts kind) self.entry ≡ Some c) }
     {
         self.pass(Class::Space)?;
         let only = self.field(kind)?;
@@ -91,7 +93,7 @@ impl<'a> Rest<'a> {
 
     /// A space and a field, twice, and nothing more.
     pub(crate) fn two_fields(mut self, kind: Kind) -> Result<(Field<'a>, Field<'a>), usize>
-        ensures { MatchResult result (λ p. Both kind self.entry.column self.entry.bytes.now p.0.column p.0.text.now p.1.column p.1.text.now) (λ c. wrongAt (one Space ∷ (parts kind ++ (one Space ∷ parts kind))) self.entry.column self.entry.bytes.now ≡ Some c) }
+        ensures { MatchResult result (λ p. Both kind self.entry p.0 p.1) (λ c. wrong_in (one Space ∷ (parts kind ++ (one Space ∷ parts kind))) self.entry ≡ Some c) }
     {
         self.pass(Class::Space)?;
         let first = self.field(kind)?;
@@ -103,7 +105,7 @@ impl<'a> Rest<'a> {
 
     /// Nothing is left.
     pub(crate) fn end(self) -> Result<(), usize>
-        ensures { MatchResult result (λ _. length self.entry.bytes.now ≡ 0) (λ c. wrongAt [] self.entry.column self.entry.bytes.now ≡ Some c) }
+        ensures { MatchResult result (λ _. length self.entry.bytes.now ≡ 0) (λ c. wrong_in [] self.entry ≡ Some c) }
     {
         if self.bytes.is_empty() {
             Ok(())

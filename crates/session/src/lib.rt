@@ -1,18 +1,23 @@
 //! A whole script on the payload bay's part: the console over patience 2 on the wire rig.
 #![tactic(auto)]
 
-ghost use Rattle.std.specs.Prelude.{◌≡◌};
+ghost use Rattle.std.specs.Prelude.{◌≡◌, ℕ, List, take, OnOk, IfOk, IfSome, Result};
+ghost use Rattle.std.specs.Io.KnownBytes.{Appends};
+ghost use Rattle.script.specs.declared.command.Command.{Command};
+ghost use Rattle.console.specs.Answering.{Reads, line_outcome, line_left, said, next_line};
+ghost use Rattle.session.specs.Answered.{ReadAs, answers, Answered, OneAnswer};
 ghost use Rattle.answers.specs.declared.Answer.TheVariants.{Refused};
 
 pub mod lines;
 
 use answers::{ANSWER_BYTES, Answer};
-use console::{Console, WRONG_FORM, boot};
+use console::{Console, ConsoleFault, WRONG_FORM, boot};
 use lines::{Lines, first_line};
 use registers::pins::Pins;
 use rig::{Patience, Rig};
+use std::alloc::Global;
 use std::io;
-use std::io::Write;
+use std::io::{Read, Write};
 use wire::Wire;
 
 /// A longer script is refused whole.
@@ -34,25 +39,56 @@ fn too_long() -> Answer<'static>
     }
 }
 
+/// Reads a script: of a longer one a byte more than the longest has, which tells that it is too long.
+pub fn read<R: Read + Drop>(input: R, heap: Global) -> io::Result<Vec<u8>>
+    ensures { IfOk result (λ script. IfSome (R.remaining input) (λ bytes. script.items ≡ take 65537 bytes)) }
+{
+    let mut script = Vec::new(heap);
+    input
+        .take(LONGEST_SCRIPT as u64 + 1)
+        .read_to_end(&mut script)?;
+    Ok(script)
+}
+
+/// Answers a line at the end of what is written.
+fn answer_line<R: Rig, W: Write>(
+    out: &mut W,
+    console: &mut Console<R>,
+    line: &[u8],
+    buffer: &mut [u8; ANSWER_BYTES],
+) -> io::Result<()>
+    ensures answers { (s : Result Command ℕ) × Reads line.now s × (R.Rig.meaning console.new.rig ≡ line_left (R.Rig.meaning console.old.rig) console.old.address s) × OnOk result (Appends (W.contents out.old) (W.contents out.new) (said (next_line console.old.line) (line_outcome (R.Rig.meaning console.old.rig) console.old.address s))) }
+    ensures counted { console.new.line ≡ next_line console.old.line }
+    ensures address { console.new.address ≡ console.old.address }
+{
+    let length = console
+        .answer(line, buffer)
+        .unwrap_or_else(ConsoleFault::length);
+    out.write_all(&buffer[..length])
+}
+
 /// Answers the lines after the first.
 fn answer_lines<R: Rig, W: Write>(
     out: &mut W,
     console: &mut Console<R>,
     script: &[u8],
-) -> io::Result<()> {
-    let mut buffer = [0; ANSWER_BYTES];
+    buffer: &mut [u8; ANSWER_BYTES],
+) -> io::Result<()>
+    ensures { OnOk result ((ss : List (Result Command ℕ)) × ReadAs script.now ss × Appends (W.contents out.old) (W.contents out.new) (answers (R.Rig.meaning console.old.rig) console.old.address console.old.line ss)) }
+{
     for line in Lines::new(script) {
-        let length = console
-            .answer(line, &mut buffer)
-            .unwrap_or_else(|fault| fault.length());
-        out.write_all(&buffer[..length])?;
+        answer_line(out, console, line, buffer)?;
     }
     Ok(())
 }
 
-/// Answers a script, each line as it is done.
+/// Answers a script, each line as it is done. Where all is written, it is the answer to the script.
 // One buffer with a length beside it for all answers, a rule of the project: memory is the script and little more.
-pub fn run<W: Write>(out: &mut W, script: &[u8]) -> io::Result<()> {
+#[tactic(auto, using(crate::proofs::One::one_answer))]
+pub fn run<W: Write>(out: &mut W, script: &[u8]) -> io::Result<()>
+    ensures answered { OnOk result (Answered script.now (W.contents out.old) (W.contents out.new)) }
+    ensures one { OneAnswer }
+{
     let mut buffer = [0; ANSWER_BYTES];
     if script.len() > LONGEST_SCRIPT {
         let length = too_long().put(&mut buffer);
@@ -63,7 +99,7 @@ pub fn run<W: Write>(out: &mut W, script: &[u8]) -> io::Result<()> {
         Ok((hold_off, length)) => {
             out.write_all(&buffer[..length])?;
             let rig = Patience::new(Wire::new(Pins::payload_bay(), hold_off), PATIENCE);
-            answer_lines(out, &mut Console::new(rig, ADDRESS), rest)
+            answer_lines(out, &mut Console::new(rig, ADDRESS), rest, &mut buffer)
         }
         Err(fault) => out.write_all(&buffer[..fault.length()]),
     }

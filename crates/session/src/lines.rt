@@ -24,6 +24,7 @@ pub fn first_line(text: &[u8]) -> (&[u8], &[u8])
 }
 
 /// The lines of a text, from the first to the last.
+// An iterator of its own: `split_inclusive` leaves the line feeds on, and a script's first line is wanted apart.
 #[derive(Drop)]
 pub struct Lines<'a> {
     rest: &'a [u8],
@@ -41,7 +42,7 @@ impl<'a> Lines<'a> {
 impl<'a> Iterator for Lines<'a> {
     type Item = &'a [u8];
 
-    ghost next_gives = { λ s r t. MatchOption r (length s.rest.now ≡ 0) (λ line. (line.now ≡ line_of s.rest.now) × (t.rest.now ≡ after_line s.rest.now)) };
+    ghost next_gives = { λ s r t. MatchOption r ((length s.rest.now ≡ 0) × (t.rest.now ≡ s.rest.now)) (λ line. (0 < length s.rest.now) × (line.now ≡ line_of s.rest.now) × (t.rest.now ≡ after_line s.rest.now)) };
 
     ghost remaining = { λ s. at_most (length s.rest.now) };
 

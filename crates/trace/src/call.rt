@@ -2,7 +2,7 @@
 use bus::sender::{PutFault, ReadFault};
 use bus::{Bus, sender};
 use rig::{LONGEST_BLOCK, base_of};
-use samples::ring::{LENGTH, Resolution};
+use samples::ring::Resolution;
 use samples::signal::Signal;
 use std::fmt;
 use thiserror::Error;
@@ -64,19 +64,15 @@ impl Call {
     /// The whole call on a bus, from START to STOP, and its first byte of data, written or read.
     pub(crate) fn make<B: Bus>(self, bus: &mut B) -> Result<u8, NotAcknowledged> {
         let mut bytes = [0; LONGEST_BLOCK];
-        let (register, into) = match self.request {
+        let (register, count) = match self.request {
             Request::Put { register, byte } => {
                 sender::put(bus, self.address, register, byte)?;
                 return Ok(byte);
             }
-            Request::Get(register) => (register, &mut bytes[0..1]),
-            Request::Block(signal, Resolution::Short) => (base_of(signal), &mut bytes[0..LENGTH]),
-            Request::Block(signal, Resolution::Full) => (
-                base_of(signal),
-                &mut bytes[0..2 * LENGTH],
-            ),
+            Request::Get(register) => (register, 1),
+            Request::Block(signal, resolution) => (base_of(signal), resolution.ring_bytes()),
         };
-        sender::read(bus, self.address, register, into)?;
+        sender::read(bus, self.address, register, &mut bytes[..count])?;
         Ok(bytes[0])
     }
 }

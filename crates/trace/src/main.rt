@@ -11,7 +11,6 @@ use script::first::hold_off;
 use script::reader::command;
 use session::LONGEST_SCRIPT;
 use session::lines::{Lines, first_line};
-use std::io::Read;
 use vcd::Dump;
 use wire::receiver::Receiver;
 
@@ -27,10 +26,7 @@ fn play(rt: &HostRuntime, mut player: Player, script: &[u8]) -> anyhow::Result<(
 }
 
 fn run(rt: &HostRuntime) -> anyhow::Result<()> {
-    let mut script = Vec::new(rt.alloc());
-    rt.stdin()
-        .take(LONGEST_SCRIPT as u64 + 1)
-        .read_to_end(&mut script)?;
+    let script = session::read(rt.stdin(), rt.alloc())?;
     let dump = Dump::begin(rt)?;
     let (line, rest) = first_line(&script);
     match hold_off(line) {

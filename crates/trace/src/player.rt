@@ -5,11 +5,9 @@ use anyhow::ensure;
 use bus::recorder::Recorder;
 use part::events::Pin;
 use registers::causes::Trip;
-use registers::pins::{Level, Pins};
-use registers::register;
-use registers::settings::Settings;
+use registers::{bits, register};
+use report::SIGNALS;
 use rig::{check_register, samples_of};
-use samples::signal::Signal;
 use script::Command;
 use session::{ADDRESS, PATIENCE};
 use wire::receiver::Receiver;
@@ -51,16 +49,18 @@ impl Player {
     }
 
     /// All registers and then both rings, unless the first get is refused.
+    // Not `reading::registers`, which gets them over a rig: each call is recorded here.
     fn read(&mut self, rt: &HostRuntime) -> anyhow::Result<()> {
-        let mut settings = Settings::power_up(&Pins::payload_bay());
-        for number in 0..register::COUNT as u8 {
-            let Some(byte) = self.call(rt, Request::Get(number))? else {
+        let mut bytes = [0; register::COUNT];
+        for (number, byte) in bytes.iter_mut().enumerate() {
+            let Some(got) = self.call(rt, Request::Get(number as u8))? else {
                 return Ok(());
             };
-            settings.write(number, byte);
+            *byte = got;
         }
-        for signal in [Signal::Voltage, Signal::Current] {
-            self.call(rt, Request::Block(signal, settings.resolution(signal)))?;
+        for signal in SIGNALS {
+            let resolution = bits::resolution(bytes[register::CBUFRD_HIBYONLY as usize], signal);
+            self.call(rt, Request::Block(signal, resolution))?;
         }
         Ok(())
     }
@@ -70,12 +70,12 @@ impl Player {
         match command {
             // a tick that is refused does nothing, on the bus or off it
             Command::Tick { current, voltage } => {
-                if let Ok((i, v)) = samples_of(current, voltage) {
-                    self.part.tick(i, v);
+                if let Ok(samples) = samples_of(current, voltage) {
+                    self.part.tick(samples);
                 }
             }
-            Command::On(high) => self.part.pin(Pin::On, Level::from(high)),
-            Command::Pol(high) => self.part.pin(Pin::Pol, Level::from(high)),
+            Command::On(level) => self.part.pin(Pin::On, level),
+            Command::Pol(level) => self.part.pin(Pin::Pol, level),
             Command::Fast => self.part.trip(Trip::Fast),
             Command::Slow => self.part.trip(Trip::Slow),
             Command::Put { register, byte } if check_register(register).is_ok() => {

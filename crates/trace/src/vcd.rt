@@ -13,6 +13,7 @@ const SCL: char = '!';
 const SDA: char = '"';
 
 /// SDA is high only where neither end pulls it.
+// Said in `wire::change` too: the dump shows what was recorded, the receiver acts on what it sees.
 fn bus_sda(recorded: Recorded) -> bool
     ensures { result ≡ (recorded.levels.sda && recorded.sda) }
 {

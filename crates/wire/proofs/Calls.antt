@@ -25,7 +25,7 @@ use Rattle.wire.specs.declared.receiver.Phase.{Phase}
 use Rattle.wire.specs.declared.receiver.Phase.TheVariants.{Idle, Address, Register, Data, Acknowledge, Acknowledged, Send, Sent}
 use Rattle.wire.specs.Lines.{Line, Behind}
 use Rattle.wire.specs.Receive.{pointing, wrote, to_send, next_pointer, next_place}
-use Rattle.wire.specs.Rests.{Goes, rest, is_idle, rests, meaning_of, or_silence}
+use Rattle.wire.specs.Rests.{Receives, rest, is_idle, rests, meaning_of, or_silence}
 use Rattle.wire.specs.Laws.{told_as, Does, PutFrames, GetFrames, BlockFrames, FramesAreCalls}
 use Rattle.wire.proofs.Runs.{from}
 use Rattle.wire.proofs.Fed.{feed, fed}
@@ -131,7 +131,7 @@ unsent v w c a told to far r same t =
     let e = elsewhere (meaning_of v) c a to (λ f. let no : ⊥ = omega (arith, address_small v.behind.part) in no) in
     record { answers = t ∙ sym e.0; after = ap meaning_of same ∙ e.1; rested = ap rests same ∙ r }
 
-nothing_driven : (s : Line) {t : Line} {ks : List Beat} → ks ≡ [] → Driven Goes s ks t → t ≡ s
+nothing_driven : (s : Line) {t : Line} {ks : List Beat} → ks ≡ [] → Driven Receives s ks t → t ≡ s
 nothing_driven s e p = fed p ∙ ap (feed s) e
 
 module _ (v w : Line) (still : rests v ≡ true) where
@@ -158,8 +158,8 @@ module _ (v w : Line) (still : rests v ≡ true) where
         rested = rest_rests w _ _ is;
       }
 
-  module _ (a r x : ℕ) (f : Result (Unit {0}) PutFault) (low : r ≤ 0x45) (small : x < 256) (above : 128 ≤ a → f ≡ Err put.Address) (run : Driven Goes v (put_frame a r x f) w) where
-    put_rest : Driven Goes (rest v.owed v.behind) (put_frame a r x f) w
+  module _ (a r x : ℕ) (f : Result (Unit {0}) PutFault) (low : r ≤ 0x45) (small : x < 256) (above : 128 ≤ a → f ≡ Err put.Address) (run : Driven Receives v (put_frame a r x f) w) where
+    put_rest : Driven Receives (rest v.owed v.behind) (put_frame a r x f) w
     put_rest = from (rest_is v still) run
 
     pub put_means : Does v w (puts a r x) (told_as done f)
@@ -199,8 +199,8 @@ module _ (v w : Line) (still : rests v ≡ true) where
       (small : (k : ℕ) → get_or ns k 0 < 256)
       (does_it : (opening v.behind r).part ≡ does v.behind.part c)
       (gives : Gives (opening v.behind r) ns (length ns) → g ≡ good v.behind.part c)
-      (above : 128 ≤ a → f ≡ Err read.Address) (run : Driven Goes v (read_frame a r ns f) w) where
-    read_rest : Driven Goes (rest v.owed v.behind) (read_frame a r ns f) w
+      (above : 128 ≤ a → f ≡ Err read.Address) (run : Driven Receives v (read_frame a r ns f) w) where
+    read_rest : Driven Receives (rest v.owed v.behind) (read_frame a r ns f) w
     read_rest = from (rest_is v still) run
 
     some : length ns ≡ 0 → ⊥
@@ -269,7 +269,7 @@ module _ (b : Behind) (base : ℕ) (ring : ring_base base ≡ true) where
   ring_passes (suc k) h =
       let q = ring_passes k (omega arith) in (
         ap next_pointer q.0 ∙ stays,
-        ap next_place q.1 ∙ cond-true (ltb k 99) (k + 1) 0 (lt-ltb k 99 (omega arith)) ∙ add-one k,
+        ap next_place q.1 ∙ cond-true (ltb (k + 1) 100) (k + 1) 0 (lt-ltb (k + 1) 100 (omega arith)) ∙ add-one k,
       )
 
   passed_part : (k : ℕ) → (passes (opening b base) k).part ≡ step b.part (stop (ring_at base))
@@ -305,17 +305,17 @@ block_to m a base n t u =
 
 -- ---- each frame is its call
 
-pub put_frames : PutFrames
+pub put_frames : PutFrames (λ v. v) Receives
 put_frames v w a r x f still low small above run = put_means v w still a r x f low small above run
 
-pub get_frames : GetFrames
+pub get_frames : GetFrames (λ v. v) Receives
 get_frames v w a r ns f still low len small above run =
     read_means v w still (gets a r) a r 0 ns f (byte (get_or ns 0 0)) (get_to (meaning_of v) a r low) (omega arith) len small
     (register_part v.behind r low)
     (λ gives. ap byte (gives 0 (omega arith) ∙ register_sent v.behind r low))
     above run
 
-pub block_frames : BlockFrames
+pub block_frames : BlockFrames (λ v. v) Receives
 block_frames v w a base ns f still fits ring small above run =
     let parts = and_parts (ltb 0 (length ns)) (leb (length ns) 100) fits in
     let some : 0 < length ns = ltb-true 0 (length ns) parts.0 in

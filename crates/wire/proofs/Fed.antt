@@ -5,7 +5,7 @@ use Rattle.bus.specs.declared.levels.Levels.{Levels}
 use Rattle.bus.specs.Frames.{Beat, tell, hear, Driven, done, told, heard, pair, bit_at, bit_frame, heard_frame, bits_frame, byte_frame}
 use Rattle.wire.specs.Lines.{Line, Behind}
 use Rattle.wire.specs.Receive.{received, Kind, address_byte, register_byte, data_byte, taking_phase, whole, bit_taken, empty}
-use Rattle.wire.specs.Rests.{Goes}
+use Rattle.wire.specs.Rests.{Receives}
 use Rattle.wire.proofs.Runs.{split}
 use Rattle.wire.proofs.Joined.{shift_in, front, front_all}
 
@@ -74,19 +74,19 @@ module _ (o : ℕ) (b : Behind) where
       ∙ ap (λ (x : ℕ). received (whole (taking o b k (front n 7) 7 (pair true (bit_at n 0))) k x) (pair false (bit_at n 0))) (front_all n h)
 
 -- a run of a receiver is what it makes of the beats
-pub fed : {t s : Line} {ks : List Beat} → Driven Goes s ks t → t ≡ feed s ks
+pub fed : {t s : Line} {ks : List Beat} → Driven Receives s ks t → t ≡ feed s ks
 fed done = refl
 fed (told {l = l} {ks = ks} r p) = fed p ∙ ap (λ (x : Line). feed x ks) r.goes
 fed (heard {l = l} {ks = ks} r p) = fed p ∙ ap (λ (x : Line). feed x ks) r.goes
 
 -- what is heard in a bit is what the receiver drives while SCL is high
-pub bit_heard : {t s : Line} {b a : Bool} → Driven Goes s (heard_frame b a) t → a ≡ (received (received s (pair false b)) (pair true b)).drives
+pub bit_heard : {t s : Line} {b a : Bool} → Driven Receives s (heard_frame b a) t → a ≡ (received (received s (pair false b)) (pair true b)).drives
 bit_heard {b = b} (told p (heard q z)) =
     q.says ∙ ap (λ (x : Line). x.drives) (q.goes ∙ ap (λ (x : Line). received x (pair true b)) p.goes)
 
 -- a byte, and the answer to it: u is the receiver at its eighth bit
 pub byte_run : {t : Line} (o : ℕ) (b : Behind) (k : Kind) (n : ℕ) (c d acked : Bool) (u : Line) → n < 256 → eighth o b k n ≡ u
-    → Driven Goes (taking o b k 0 0 (pair c d)) (byte_frame n acked) t
+    → Driven Receives (taking o b k 0 0 (pair c d)) (byte_frame n acked) t
     → (not acked ≡ (received (received (received u (pair false (bit_at n 0))) (pair false true)) (pair true true)).drives)
     × (t ≡ feed (received u (pair false (bit_at n 0))) (bit_frame true))
 unfolding byte_frame

@@ -1,3 +1,4 @@
+pub mod Levelled
 pub mod Byte
 pub mod Runs
 pub mod Joined

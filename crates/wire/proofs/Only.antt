@@ -1,8 +1,8 @@
 -- Whatever levels come, only whole calls reach the part.
-use Rattle.std.proofs.Common.{◌≡◌, ℕ, Option, Some, None, ◌+◌, ◌/◌, ◌%◌, ◌<◌, ◌≤◌, Bool, true, false, cond, eqb, ltb, leb, List, [], ◌∷◌, ◌++◌, length, get_or, drop, sym, refl, ap, ◌∙◌}
+use Rattle.std.proofs.Common.{◌≡◌, ℕ, Option, Some, None, ◌+◌, ◌*◌, ◌/◌, ◌%◌, ◌<◌, ◌≤◌, Bool, true, false, cond, eqb, ltb, leb, List, [], ◌∷◌, ◌++◌, length, get_or, drop, sym, refl, ap, ◌∙◌, IfSome, arith}
 use mathlib.Core.Path.{subst⁻¹}
 use Rattle.std.proofs.lemmas.List.{at_drop_more, at_drop_all}
-use Rattle.std.proofs.lemmas.Bool.{and_parts, and_from}
+use Rattle.std.proofs.lemmas.Bool.{and_parts, and_from, cond_both, lt-ltb}
 use Rattle.bus.specs.declared.levels.Levels.{Levels}
 use Rattle.part.specs.Events.{Event, write, block, step}
 use Rattle.part.specs.Model.{Model, address}
@@ -16,7 +16,7 @@ use Rattle.wire.specs.declared.receiver.Next.TheVariants as next
 use Rattle.wire.specs.declared.receiver.Phase.{Phase}
 use Rattle.wire.specs.declared.receiver.Phase.TheVariants.{Idle, Address, Register, Data, Acknowledge, Acknowledged, Send, Sent}
 use Rattle.wire.specs.Lines.{Line, Behind}
-use Rattle.wire.specs.Receive.{at_levels, received, reacted, risen, fallen, sent, completed, shifted, bit_taken, Kind, address_byte, register_byte, data_byte, addressed, pointed, written, opened, in_phase, with_behind, wrote, passed, pointing, to_send}
+use Rattle.wire.specs.Receive.{at_levels, received, reacted, risen, fallen, sent, bit, completed, shifted, bit_taken, Kind, address_byte, register_byte, data_byte, addressed, pointed, written, opened, in_phase, with_behind, wrote, passed, pointing, to_send}
 use Rattle.wire.specs.Laws.{received_all, from_bus, all_from_bus, OnlyCalls}
 
 same : (p : Model) → OnlyCalls p p
@@ -55,22 +55,30 @@ by_address r n =
 by_register : (r : Line) (n : ℕ) → OnlyCalls r.behind.part (pointed r n).behind.part
 by_register r n = either r.behind.part (leb n 0x47) (with_behind r (pointing r.behind n) (Acknowledge next.Data)) (in_phase r Idle) (same r.behind.part) (same r.behind.part)
 
-by_data : (r : Line) (n : ℕ) → OnlyCalls r.behind.part (written r n).behind.part
-by_data r n =
+by_data : (r : Line) (n : ℕ) → n < 256 → OnlyCalls r.behind.part (written r n).behind.part
+by_data r n fits =
     either r.behind.part (leb r.behind.pointer 0x45) (with_behind r (wrote r.behind n) (Acknowledge next.Data)) (in_phase r Idle)
-    (write r.behind.pointer n ∷ [], refl, refl) (same r.behind.part)
+    (write r.behind.pointer n ∷ [], and_from (ltb n 256) true (lt-ltb n 256 fits) refl, refl) (same r.behind.part)
 
-by_bit : (r : Line) (k : Kind) (t : Option ℕ) (s : Shift) → OnlyCalls r.behind.part (bit_taken r k t s).behind.part
-by_bit r k None s = same r.behind.part
-by_bit r address_byte (Some n) s = by_address r n
-by_bit r register_byte (Some n) s = by_register r n
-by_bit r data_byte (Some n) s = by_data r n
+-- eight bits are a byte
+whole_fits : (s : Shift) (b : Bool) → IfSome (completed s b) (λ n. n < 256)
+whole_fits s b = cond_both (ltb s.count 7) None (Some (s.bits % 128 * 2 + bit b)) (λ t. IfSome t (λ n. n < 256)) (λ _. tt) (λ _. bits_fit s b)
+  where
+    bits_fit : (s : Shift) (b : Bool) → s.bits % 128 * 2 + bit b < 256
+    bits_fit s true = omega arith
+    bits_fit s false = omega arith
+
+by_bit : (r : Line) (k : Kind) (t : Option ℕ) (s : Shift) → IfSome t (λ n. n < 256) → OnlyCalls r.behind.part (bit_taken r k t s).behind.part
+by_bit r k None s fits = same r.behind.part
+by_bit r address_byte (Some n) s fits = by_address r n
+by_bit r register_byte (Some n) s fits = by_register r n
+by_bit r data_byte (Some n) s fits = by_data r n fits
 
 by_rise : (r : Line) (f : Phase) (b : Bool) → OnlyCalls r.behind.part (risen r f b).behind.part
 by_rise r Idle b = same r.behind.part
-by_rise r (Address s) b = by_bit r address_byte (completed s b) (shifted s b)
-by_rise r (Register s) b = by_bit r register_byte (completed s b) (shifted s b)
-by_rise r (Data s) b = by_bit r data_byte (completed s b) (shifted s b)
+by_rise r (Address s) b = by_bit r address_byte (completed s b) (shifted s b) (whole_fits s b)
+by_rise r (Register s) b = by_bit r register_byte (completed s b) (shifted s b) (whole_fits s b)
+by_rise r (Data s) b = by_bit r data_byte (completed s b) (shifted s b) (whole_fits s b)
 by_rise r (Acknowledge n) b = same r.behind.part
 by_rise r (Acknowledged n) b = same r.behind.part
 by_rise r (Send s) b = same r.behind.part

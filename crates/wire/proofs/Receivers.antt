@@ -3,12 +3,12 @@ use Rattle.std.proofs.Common.{List}
 use Rattle.bus.specs.Frames.{Beat, Driven, done, told, heard}
 use Rattle.wire.specs.declared.receiver.Receiver.TheInside.{Inside}
 use Rattle.wire.specs.Receive.{view}
-use Rattle.wire.specs.Rests.{Goes}
+use Rattle.wire.specs.Rests.{Receives}
 use Rattle.wire.specs.Receivers.{Takes, FramesOfReceivers}
 use Rattle.wire.proofs.Byte.{byte_to_send}
 use Rattle.wire.proofs.Calls.{frames_are_calls}
 
-seen : {s t : Inside} {ks : List Beat} → Driven Takes s ks t → Driven Goes (view s) ks (view t)
+seen : {s t : Inside} {ks : List Beat} → Driven Takes s ks t → Driven Receives (view s) ks (view t)
 seen done = done
 seen (told {m = m} r d) = told (record { goes = r.0; says = r.1; fits = byte_to_send m }) (seen d)
 seen (heard {m = m} r d) = heard (record { goes = r.0; says = r.1; fits = byte_to_send m }) (seen d)

@@ -3,6 +3,7 @@ use Rattle.std.specs.Prelude.{ℕ, ◌+◌, ◌-◌, ◌*◌, ◌/◌, ◌%◌, 
 use Rattle.bus.specs.declared.levels.Levels.{Levels}
 use Rattle.bus.specs.Frames.{pair}
 use Rattle.samples.specs.History.{byte_at}
+use Rattle.samples.specs.Places.{following}
 use Rattle.registers.specs.Questions.{resolution}
 use Rattle.part.specs.Events.{Event, step, write, block}
 use Rattle.part.specs.Model.{Model, model, address, monitor}
@@ -81,7 +82,7 @@ pointing b n = record { part = b.part; pointer = n; place = b.place }
 abbrev pub pointed : Line → ℕ → Line
 pointed r n = cond (nat_le n 0x47) (with_behind r (pointing r.behind n) (Acknowledge next.Data)) (in_phase r Idle)
 
--- ---- a data byte: acknowledged for a register, and none for a ring base
+-- ---- a data byte: acknowledged for a register, and not for a ring base
 
 -- on to the next register, from 0x45 to 0x00; a ring base stays
 abbrev pub next_pointer : ℕ → ℕ
@@ -103,7 +104,7 @@ to_send b = cond (ring_base b.pointer) (ring_byte b.part b.pointer b.place) (con
 
 -- a readout repeats after a hundred bytes at the latest
 abbrev pub next_place : ℕ → ℕ
-next_place k = cond (nat_lt k 99) (k + 1) 0
+next_place k = following k 100
 
 abbrev pub passed : Behind → Behind
 passed b = record { part = b.part; pointer = next_pointer b.pointer; place = next_place b.place }

@@ -11,13 +11,10 @@ use Rattle.wire.specs.Lines.{Line, Behind}
 use Rattle.wire.specs.Receive.{received, to_send}
 
 -- a pair of levels is taken, and SDA answered; what is to be sent is a byte
-pub record Goes (r : Line) (l : Levels) (a : Bool) (s : Line) : Type 0 where
+pub record Receives (r : Line) (l : Levels) (a : Bool) (s : Line) : Type 0 where
   pub goes : s ≡ received r l
   pub says : a ≡ s.drives
   pub fits : to_send s.behind < 256
-
-abbrev pub Receives : Line → Levels → Bool → Line → Type 0
-Receives = Goes
 
 -- both wires high, no pull, and nothing under way
 abbrev pub rest : ℕ → Behind → Line

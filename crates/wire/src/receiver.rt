@@ -1,7 +1,7 @@
 //! The receiver: the part's end of the bus.
-ghost use Rattle.std.specs.Prelude.{◌≡◌, ◌<◌, true, Some};
+ghost use Rattle.std.specs.Prelude.{◌≡◌, ◌+◌, ◌*◌, ◌%◌, ◌<◌, true, nat_lt};
 ghost use Rattle.part.specs.Model.{powered};
-ghost use Rattle.wire.specs.Receive.{completed, shifted, resting, addressed, pointed, written, to_send, next_pointer, driving, opened, sent, begun, reacted, received, happened};
+ghost use Rattle.wire.specs.Receive.{completed, shifted, resting, addressed, pointed, written, to_send, next_pointer, driving, opened, begun, risen, fallen, reacted, received, happened};
 ghost use Rattle.wire.specs.Laws.{received_all, OnlyCalls};
 ghost use Rattle.wire.specs.Rests.{Receives};
 ghost use Rattle.part.specs.Events.{tick as ticks, pin as pins, trip as trips};
@@ -11,15 +11,13 @@ use crate::change::Change;
 use bus::Bus;
 use bus::levels::Levels;
 use part::events::Pin;
-use part::{Outputs, Part};
+use part::{Outputs, Part, Samples};
 use registers::causes::Trip;
 use registers::pins::{Level, Pins};
 use registers::register;
 use rig::ring_at;
 use samples::place;
-use samples::sample::Sample;
 use std::marker::Model;
-use std::mem;
 
 /// Bits of a byte, the most significant first: those that are in, or those still to go out at the top.
 #[derive(Clone, Copy, PartialEq, Eq, Debug)]
@@ -67,7 +65,7 @@ pub struct Receiver {
     owed: u8,
     /// The register, or the ring base, that the next byte is for.
     pointer: u8,
-    /// How many bytes of a ring this read has sent, round at a hundred.
+    /// How many bytes this read has sent, round at a hundred.
     place: usize,
     part: Part,
 }
@@ -80,6 +78,11 @@ impl Model for Receiver {
     ghost use Rattle.wire.specs.Receive.{view as line};
 
     ghost view = { line };
+
+    ghost use Rattle.std.specs.Prelude.{◌≤◌};
+
+    // the pointer is at a register or at a ring base, and so always shows a byte
+    ghost invariant = { λ r. r.pointer ≤ 0x47 };
 }
 
 impl Shift {
@@ -90,17 +93,27 @@ impl Shift {
         ensures byte { result ≡ completed self.old bit }
         ensures after { self.new ≡ shifted self.old bit }
     {
-        let bits = self.bits % 128 * 2 + u8::from(bit);
+        let bits = (self.bits << 1) + u8::from(bit);
         if self.count < 7 {
-            *self = Shift {
-                bits,
-                count: self.count + 1,
-            };
+            self.bits = bits;
+            self.count += 1;
             None
         } else {
             *self = Shift::EMPTY;
             Some(bits)
         }
+    }
+
+    /// Gives the next bit out.
+    fn give(&mut self) -> bool
+        requires { self.old.count < 8 }
+        ensures bit { result ≡ nat_lt 127 self.old.bits }
+        ensures after { self.new ≡ record { bits = self.old.bits % 128 * 2; count = self.old.count + 1 } }
+    {
+        let bit = self.bits > 127;
+        self.bits <<= 1;
+        self.count += 1;
+        bit
     }
 }
 
@@ -199,7 +212,7 @@ impl Receiver {
     {
         match ring_at(self.pointer) {
             Some(signal) => self.part.block_byte(signal, self.place),
-            None => self.part.register(self.pointer).unwrap_or(0),
+            None => self.part.register(self.pointer).unwrap(),
         }
     }
 
@@ -211,25 +224,6 @@ impl Receiver {
         self.phase = phase;
     }
 
-    /// As SCL falls: the next bit goes out, or SDA is left to the master. With its eighth bit a byte counts as read.
-    fn send(&mut self, shift: Shift)
-        ensures { self.new ≡ sent self.old shift }
-    {
-        if shift.count < 8 {
-            self.drives = shift.bits > 127;
-            self.phase = Phase::Send(Shift {
-                bits: shift.bits % 128 * 2,
-                count: shift.count + 1,
-            });
-            if shift.count == 7 {
-                self.pointer = after_byte(self.pointer);
-                self.place = place::next(self.place, READOUT);
-            }
-        } else {
-            self.release(Phase::Sent);
-        }
-    }
-
     /// As SCL falls after an acknowledge: the next byte begins.
     fn begin(&mut self, next: Next)
         ensures { self.new ≡ begun self.old next }
@@ -238,58 +232,78 @@ impl Receiver {
             Next::Register => self.release(Phase::Register(Shift::EMPTY)),
             Next::Data => self.release(Phase::Data(Shift::EMPTY)),
             Next::Send => {
-                let bits = self.byte_to_send();
-                self.send(Shift { bits, count: 0 });
+                let mut shift = Shift {
+                    bits: self.byte_to_send(),
+                    count: 0,
+                };
+                self.drives = shift.give();
+                self.phase = Phase::Send(shift);
             }
         }
     }
 
     /// Takes one pair of levels, and answers the SDA that the receiver drives.
+    // Inlined, with what is below, into a master's three pairs for a bit, each of which then knows the one before.
+    #[inline(always)]
     pub fn receive(&mut self, levels: Levels) -> bool
         ensures after { self.new ≡ received self.old levels }
         ensures sda { result ≡ (received self.old levels).drives }
         ensures byte { to_send self.new.behind < 256 }
     {
-        let was = mem::replace(&mut self.levels, levels);
-        if let Some(change) = Change::between(was, levels, self.drives) {
-            self.react(change);
-        }
+        self.react(Change::between(self.levels, levels, self.drives));
+        self.levels = levels;
         self.drives
     }
 
     /// What a change comes to, by the phase that it meets.
-    fn react(&mut self, change: Change)
-        ensures { self.new ≡ reacted self.old (Some change) }
+    #[inline(always)]
+    fn react(&mut self, change: Option<Change>)
+        ensures { self.new ≡ reacted self.old change }
     {
-        match (self.phase, change) {
-            (_, Change::Start) => self.release(Phase::Address(Shift::EMPTY)),
-            (_, Change::Stop) => self.release(Phase::Idle),
-            // Three arms: one helper for them would take the phase and the handler as closures, and read no plainer.
-            (Phase::Address(mut shift), Change::Rise(bit)) => match shift.take(bit) {
-                Some(byte) => self.address_byte(byte),
-                None => self.phase = Phase::Address(shift),
-            },
-            (Phase::Register(mut shift), Change::Rise(bit)) => match shift.take(bit) {
-                Some(byte) => self.register_byte(byte),
-                None => self.phase = Phase::Register(shift),
-            },
-            (Phase::Data(mut shift), Change::Rise(bit)) => match shift.take(bit) {
-                Some(byte) => self.data_byte(byte),
-                None => self.phase = Phase::Data(shift),
-            },
-            (Phase::Sent, Change::Rise(bit)) => {
+        // One `match` on phase and change, a rule of the project.
+        match (&mut self.phase, change) {
+            (_, Some(Change::Start)) => self.release(Phase::Address(Shift::EMPTY)),
+            (_, Some(Change::Stop)) => self.release(Phase::Idle),
+            // Three arms: one for all would have to tell the phases apart again.
+            (Phase::Address(shift), Some(Change::Rise(bit))) => {
+                if let Some(byte) = shift.take(bit) {
+                    self.address_byte(byte);
+                }
+            }
+            (Phase::Register(shift), Some(Change::Rise(bit))) => {
+                if let Some(byte) = shift.take(bit) {
+                    self.register_byte(byte);
+                }
+            }
+            (Phase::Data(shift), Some(Change::Rise(bit))) => {
+                if let Some(byte) = shift.take(bit) {
+                    self.data_byte(byte);
+                }
+            }
+            (Phase::Sent, Some(Change::Rise(bit))) => {
                 self.phase = if bit {
                     Phase::Idle
                 } else {
                     Phase::Acknowledged(Next::Send)
                 };
             }
-            (Phase::Acknowledge(next), Change::Fall) => {
+            (Phase::Acknowledge(next), Some(Change::Fall)) => {
                 self.drives = false;
-                self.phase = Phase::Acknowledged(next);
+                self.phase = Phase::Acknowledged(*next);
             }
-            (Phase::Acknowledged(next), Change::Fall) => self.begin(next),
-            (Phase::Send(shift), Change::Fall) => self.send(shift),
+            (Phase::Acknowledged(next), Some(Change::Fall)) => {
+                let next = *next;
+                self.begin(next);
+            }
+            (Phase::Send(shift), Some(Change::Fall)) if shift.count < 8 => {
+                self.drives = shift.give();
+                // With its eighth bit a byte counts as read.
+                if shift.count == 8 {
+                    self.pointer = after_byte(self.pointer);
+                    self.place = place::next(self.place, READOUT);
+                }
+            }
+            (Phase::Send(_), Some(Change::Fall)) => self.release(Phase::Sent),
             _ => {}
         }
     }
@@ -305,10 +319,10 @@ impl Receiver {
     }
 
     /// A tick of the part; the bus stays as it is.
-    pub fn tick(&mut self, current: Sample, voltage: Sample)
-        ensures { self.new ≡ happened self.old (ticks current.value voltage.value) }
+    pub fn tick(&mut self, samples: Samples)
+        ensures { self.new ≡ happened self.old (ticks samples.current.value samples.voltage.value) }
     {
-        self.part.tick(current, voltage);
+        self.part.tick(samples);
     }
 
     /// An input pin of the part goes to a level.
@@ -336,6 +350,7 @@ impl Receiver {
 impl Bus for Receiver {
     ghost drives = { Receives };
 
+    #[inline(always)]
     fn drive(&mut self, levels: Levels) -> bool {
         self.receive(levels)
     }

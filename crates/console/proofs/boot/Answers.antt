@@ -10,7 +10,7 @@ pub returns-in-Ok-clause-answers : goal.returns-in-Ok-clause-answers
 unfolding said text_of
 returns-in-Ok-clause-answers c =
     let sized = rw c.in_ok-out.ensures.ok_part at c.as_mut_array.ensures.cases in
-    first_each c.args.line.now c.hold_off.result c.hold_off.ensures
+    first_each c.args.line.now c.hold_off.result c.hold_off.ensures.said
     (λ s. Ok (c.in-Ok.silences, c.put.result) ≡ boot_result (length c.args.out.now) s)
     (rw (sized.long, c.in-Ok.is) (ap (λ n. Ok (c.in-Ok.silences, n)) c.put.ensures.end))
 
@@ -18,20 +18,20 @@ pub returns-in-Ok-clause-written : goal.returns-in-Ok-clause-written
 unfolding said text_of
 returns-in-Ok-clause-written c =
     let sized = rw c.in_ok-out.ensures.ok_part at c.as_mut_array.ensures.cases in
-    first_each c.args.line.now c.hold_off.result c.hold_off.ensures
+    first_each c.args.line.now c.hold_off.result c.hold_off.ensures.said
     (λ s. c.put.new.out ≡ answer_buffer c.args.out.now 1 (boot_outcome s))
     (rw (sized.long, c.in-Ok.is) (c.put.ensures.written ∙ ap (at_front (said 1 done)) sized.same))
 
 pub returns-in-Err-clause-answers : goal.returns-in-Err-clause-answers
 returns-in-Err-clause-answers c =
     let sized = rw c.in_ok-out.ensures.ok_part at c.as_mut_array.ensures.cases in
-    first_each c.args.line.now c.hold_off.result c.hold_off.ensures
+    first_each c.args.line.now c.hold_off.result c.hold_off.ensures.said
     (λ s. Err c.refuse.result ≡ boot_result (length c.args.out.now) s)
     (rw (sized.long, c.in-Err.is) (ap Err c.refuse.ensures.fault))
 
 pub returns-in-Err-clause-written : goal.returns-in-Err-clause-written
 returns-in-Err-clause-written c =
     let sized = rw c.in_ok-out.ensures.ok_part at c.as_mut_array.ensures.cases in
-    first_each c.args.line.now c.hold_off.result c.hold_off.ensures
+    first_each c.args.line.now c.hold_off.result c.hold_off.ensures.said
     (λ s. c.refuse.new.out ≡ answer_buffer c.args.out.now 1 (boot_outcome s))
     (rw (sized.long, c.in-Err.is) (c.refuse.ensures.written ∙ ap (at_front _) sized.same))

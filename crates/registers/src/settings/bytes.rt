@@ -66,6 +66,7 @@ impl Settings {
     pub fn write(&mut self, register: u8, byte: u8)
         ensures { self.new.bytes ≡ written self.old.bytes register byte }
     {
+        // no `get_mut`: of an array whose byte is changed through it the proof learns nothing
         let index = register as usize;
         if index < register::COUNT {
             self.bytes[index] = byte & table::writable(register);
@@ -80,6 +81,7 @@ impl Settings {
     }
 
     /// How fine the signal's ring is read out.
+    // Beside the viewer's, which reads the same byte off a report: what both do with it is one function.
     pub fn resolution(&self, signal: Signal) -> Resolution
         ensures { result ≡ resolution self.now.bytes signal }
     {

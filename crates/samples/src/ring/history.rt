@@ -1,6 +1,6 @@
 //! What a ring is asked and told: stores, its content and the block readout.
 ghost use Rattle.std.specs.Prelude.{◌≡◌, ℕ, ◌<◌, ◌++◌, map, length, replicate};
-ghost use Rattle.samples.specs.History.{content, pushed, last_fifty, values, readout, byte_at, sample_at};
+ghost use Rattle.samples.specs.History.{content, pushed, last_fifty, values, readout, byte_at, sample_at, ring_bytes};
 
 use super::{LENGTH, Resolution, Ring};
 use crate::place;
@@ -70,5 +70,17 @@ impl Ring {
     {
         let first = place::next(self.oldest, LENGTH);
         self.samples[place::advance(first, k, LENGTH)]
+    }
+}
+
+impl Resolution {
+    /// How many bytes the readout of a whole ring has.
+    pub fn ring_bytes(self) -> usize
+        ensures { result ≡ ring_bytes self }
+    {
+        match self {
+            Resolution::Short => LENGTH,
+            Resolution::Full => 2 * LENGTH,
+        }
     }
 }

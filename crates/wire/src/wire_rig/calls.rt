@@ -40,8 +40,8 @@ impl Rig for Wire {
     ghost meaning = { wire_meaning };
 
     fn tick(&mut self, current: u16, voltage: u16) -> Result<(), Refusal> {
-        let (i, v) = samples_of(current, voltage)?;
-        self.receiver.tick(i, v);
+        let samples = samples_of(current, voltage)?;
+        self.receiver.tick(samples);
         Ok(())
     }
 

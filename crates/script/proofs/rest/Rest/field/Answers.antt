@@ -6,4 +6,4 @@ pub returns : goal.returns
 returns c =
     let s = c.shape-class.ensures in
     let t = c.take.ensures in
-    field_taken c.args.kind _ _ _ _ _ _ _ (rw (s.class, s.most) at c.run_length-count.ensures) (omega arith) t.front t.back t.column t.moved
+    field_taken c.args.kind _ _ _ _ (rw (s.class, s.most) at c.run_length-count.ensures) (omega arith) t.front t.back t.column t.moved

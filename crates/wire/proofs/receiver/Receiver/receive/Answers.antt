@@ -1,8 +1,20 @@
-use Rattle.std.proofs.Common.{◌<◌, subst}
+use Rattle.std.proofs.Common.{◌≡◌, ap, ◌∙◌, rules}
+use Rattle.wire.specs.Changes.{changed}
 use Rattle.wire.specs.Lines.{Line}
-use Rattle.wire.specs.Receive.{to_send}
+use Rattle.wire.specs.Receive.{at_levels, reacted}
 use Rattle.wire.proofs.Byte.{byte_to_send}
+use Rattle.wire.proofs.Levelled.{levelled}
 use Rattle.wire.proofs.receiver.Receiver.receive.Goals as goal
 
 pub returns-clause-byte : goal.returns-clause-byte
-returns-clause-byte c = subst (λ (x : Line). to_send x.behind < 256) c.self-2.view_is (byte_to_send c.self-2.inside)
+returns-clause-byte c = byte_to_send c.self.inside
+
+pub returns-clause-after : goal.returns-clause-after
+returns-clause-after c =
+    let r = c.args.self.now in
+    let l = c.args.levels in
+    let change : c.between.result ≡ changed r.levels l r.drives = search rules in
+    ap (λ (x : Line). at_levels x l) (c.self.view_is ∙ c.react-2.ensures ∙ ap (reacted r) change) ∙ levelled l r (changed r.levels l r.drives)
+
+pub returns-clause-sda : goal.returns-clause-sda
+returns-clause-sda c = ap (λ (x : Line). x.drives) (returns-clause-after c)

@@ -1,7 +1,7 @@
 use Rattle.std.proofs.Common.{◌≡◌, ℕ, ◌<◌, true, length, get_or}
 use Rattle.part.specs.Shown.{shown}
 use Rattle.rig.specs.Meaning.{hears}
-use Rattle.reading.proofs.gets.read_all.Given as goal
+use Rattle.reading.proofs.gets.registers.Given as goal
 
 abbrev pub invariant-loop-number : goal.invariant-loop-number
 invariant-loop-number g l =

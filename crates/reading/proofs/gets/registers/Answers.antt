@@ -6,7 +6,7 @@ use Rattle.part.specs.Shown.{shown}
 use Rattle.rig.specs.Meaning.{get, hears, next}
 use Rattle.reading.specs.Report.{registers}
 use Rattle.reading.proofs.Calls.{get_done, get_refused, get_kept, get_same}
-use Rattle.reading.proofs.gets.read_all.Goals as goal
+use Rattle.reading.proofs.gets.registers.Goals as goal
 
 pub loop-number-init : goal.loop-number-init
 loop-number-init g c = (search rules, search rules, λ h. absurd (omega arith), λ j h. absurd (omega arith))

@@ -1,0 +1,5 @@
+pub mod Steps
+pub mod Good
+pub mod Bay
+pub mod Stops
+pub mod Apart
