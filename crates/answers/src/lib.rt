@@ -6,10 +6,8 @@ ghost use Rattle.answers.specs.Text.{text_of, at_front, written_length, written_
 
 mod text;
 
-use arrayvec::ArrayString;
-use itoa::Buffer;
 use report::{REPORT_BYTES, WrongSize};
-use text::{LONGEST, push_hex, push_report};
+use text::{DONE, byte_text, refusal_text, report_text};
 
 /// How many bytes the buffer of an answer has. The longest answer, a report, leaves three of them as they were.
 pub const ANSWER_BYTES: usize = 544;
@@ -31,50 +29,43 @@ pub enum Answer<'a> {
 impl Answer<'_> {
     /// Writes the answer at the front of the buffer and keeps the rest; says how long the answer is.
     // The bound is promised by each call above too, so that whoever has the length can cut the buffer there.
+    #[tactic(auto, unfolding(crate::specs::Text::text_of))]
     pub fn put(self, out: &mut [u8; ANSWER_BYTES]) -> usize
         ensures end { result ≡ length (text_of self.entry) }
         ensures written { out.new ≡ at_front (text_of self.entry) out.old }
         ensures bound { result ≤ 541 }
     {
-        let text = self.text();
-        let end = text.len();
-        out[..end].copy_from_slice(text.as_bytes());
-        end
+        match self {
+            Answer::Done => put_text(DONE, out),
+            Answer::Byte(byte) => put_text(byte_text(byte).as_str(), out),
+            Answer::Report(report) => put_text(report_text(report).as_str(), out),
+            Answer::Refused { line, number } => put_text(refusal_text(line, number).as_str(), out),
+        }
     }
 
     /// How long the answer is.
+    #[tactic(auto, unfolding(crate::specs::Text::text_of))]
     pub fn length(self) -> usize
         ensures { result ≡ length (text_of self.entry) }
     {
-        self.text().len()
-    }
-
-    /// The answer as a line of text.
-    #[tactic(auto, unfolding(crate::specs::Text::text_of))]
-    fn text(self) -> ArrayString<LONGEST>
-        ensures { result.bytes ≡ text_of self.entry }
-    {
-        let mut text = ArrayString::new();
         match self {
-            Answer::Done => text.push_str("ok\n"),
-            Answer::Byte(byte) => {
-                text.push_str("= ");
-                push_hex(&mut text, byte);
-                text.push_str("\n");
-            }
-            Answer::Report(report) => push_report(&mut text, report),
-            // Piece by piece: `write!` promises its text only if it gives `Ok`, and no clause says when it does.
-            Answer::Refused { line, number } => {
-                let mut digits = Buffer::new();
-                text.push_str("line ");
-                text.push_str(digits.format(line));
-                text.push_str(" refusal ");
-                text.push_str(digits.format(number));
-                text.push_str("\n");
-            }
+            Answer::Done => DONE.len(),
+            Answer::Byte(byte) => byte_text(byte).len(),
+            Answer::Report(report) => report_text(report).len(),
+            Answer::Refused { line, number } => refusal_text(line, number).len(),
         }
-        text
     }
+}
+
+/// Puts a text at the front of the buffer, and keeps the rest.
+fn put_text(text: &str, out: &mut [u8; ANSWER_BYTES]) -> usize
+    requires { length text.now ≤ 541 }
+    ensures end { result ≡ length text.now }
+    ensures written { out.new ≡ at_front text.now out.old }
+{
+    let end = text.len();
+    out[..end].copy_from_slice(text.as_bytes());
+    end
 }
 
 /// Writes the answer at the front of the buffer and keeps the rest; says how long the answer is.

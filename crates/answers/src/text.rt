@@ -1,13 +1,23 @@
-//! Bytes in hexadecimal, at the end of a text.
+//! The text of each answer, as long as it can get: a short one is made in little room.
 ghost use Rattle.std.specs.Prelude.{◌≡◌, ◌+◌, ◌<◌, ◌≤◌, [], ◌∷◌, ◌++◌};
 ghost use Rattle.arrayvec.specs.ArrayString.{array_string_len};
-ghost use Rattle.answers.specs.Text.{hex_digit, hex_text, report_text};
+ghost use Rattle.answers.specs.Text.{hex_digit, hex_text, byte_text, report_text, refusal_text};
 
 use arrayvec::ArrayString;
+use itoa::Buffer;
 use report::REPORT_BYTES;
 
-/// How long the longest answer is, a report: two digits for each byte, and a line feed.
-pub const LONGEST: usize = 541;
+/// The answer to a line that was done.
+pub const DONE: &str = "ok\n";
+
+/// How long the answer with a byte is.
+const BYTE: usize = 5;
+
+/// How long a report is, the longest answer: two digits for each byte, and a line feed.
+const REPORT: usize = 541;
+
+/// Room for a refusal, which has 28 bytes at most: the line's number has ten digits then, and its own three.
+const REFUSAL: usize = 32;
 
 /// A hexadecimal digit, the high ones in capitals.
 fn hex_digit(n: u8) -> char
@@ -21,21 +31,48 @@ fn hex_digit(n: u8) -> char
 
 /// Puts the two digits of a byte at the end.
 // Digit by digit: `write!` of `{:02X}` promises them only if it gives `Ok`, and no clause says when it does.
-pub(crate) fn push_hex(text: &mut ArrayString<LONGEST>, byte: u8)
-    requires { array_string_len text.old + 2 ≤ LONGEST }
+fn push_hex<const CAP: usize>(text: &mut ArrayString<CAP>, byte: u8)
+    requires { array_string_len text.old + 2 ≤ CAP }
     ensures { text.new.bytes ≡ text.old.bytes ++ hex_text (byte ∷ []) }
 {
     text.push(hex_digit(byte / 16));
     text.push(hex_digit(byte % 16));
 }
 
-/// Puts all bytes of a report, with nothing between them, and the line feed into an empty text.
-pub(crate) fn push_report(text: &mut ArrayString<LONGEST>, report: &[u8; REPORT_BYTES])
-    requires { text.old.bytes ≡ [] }
-    ensures { text.new.bytes ≡ report_text report.now }
+/// `= ` and the byte.
+pub(crate) fn byte_text(byte: u8) -> ArrayString<BYTE>
+    ensures { result.bytes ≡ byte_text byte }
 {
+    let mut text = ArrayString::new();
+    text.push_str("= ");
+    push_hex(&mut text, byte);
+    text.push_str("\n");
+    text
+}
+
+/// All bytes of a report, with nothing between them.
+pub(crate) fn report_text(report: &[u8; REPORT_BYTES]) -> ArrayString<REPORT>
+    ensures { result.bytes ≡ report_text report.now }
+{
+    let mut text = ArrayString::new();
     for byte in report {
-        push_hex(text, *byte);
+        push_hex(&mut text, *byte);
     }
     text.push_str("\n");
+    text
+}
+
+/// `line` and which one, `refusal` and which one.
+// Piece by piece: `write!` promises its text only if it gives `Ok`, and no clause says when it does.
+pub(crate) fn refusal_text(line: u32, number: u8) -> ArrayString<REFUSAL>
+    ensures { result.bytes ≡ refusal_text line number }
+{
+    let mut digits = Buffer::new();
+    let mut text = ArrayString::new();
+    text.push_str("line ");
+    text.push_str(digits.format(line));
+    text.push_str(" refusal ");
+    text.push_str(digits.format(number));
+    text.push_str("\n");
+    text
 }

@@ -36,11 +36,12 @@ impl Part {
         self.majority() && !self.latched
     }
 
-    /// How the channel has turned, given what it was.
-    fn turn(&self, was: bool) -> Option<Turn>
+    /// How the channel has turned, given what it was and what it is.
+    fn turn(&self, was: bool, is: bool) -> Option<Turn>
+        requires { is ≡ channel_of (model self.now) }
         ensures { result ≡ turn_by was (model self.now) }
     {
-        match (was, self.channel()) {
+        match (was, is) {
             (false, true) => Some(Turn::On),
             (true, false) => {
                 let delay = self.settings.stop_delay();
@@ -51,10 +52,11 @@ impl Part {
     }
 
     /// The extremes of the signal are reset: its reset bit is 1 or the channel turns on, and its hold bit is 0.
-    fn forgets(&self, signal: Signal, was: bool) -> bool
+    fn forgets(&self, signal: Signal, was: bool, is: bool) -> bool
+        requires { is ≡ channel_of (model self.now) }
         ensures { result ≡ forgets_by was (model self.now) signal }
     {
-        let turns_on = !was && self.channel();
+        let turns_on = !was && is;
         !self.settings.holds(signal) && (self.settings.resets(signal) || turns_on)
     }
 
@@ -69,13 +71,14 @@ impl Part {
         self.settle(majority, channel);
     }
 
-    /// What follows an event for a signal, given what the channel was before it.
-    // What it was is handed down, and no turn: its contract would need a definition more, of what a turn does to a signal.
-    fn settle_signal(&mut self, signal: Signal, channel: bool)
-        ensures { model self.new ≡ keeping (model self.old) signal (settled_signal channel (model self.old) signal (monitor signal (model self.old))) }
+    /// What follows an event for a signal, given what the channel was before it and what it is.
+    // Both are handed down, and no turn: its contract would need a definition more, of what a turn does to a signal.
+    fn settle_signal(&mut self, signal: Signal, was: bool, is: bool)
+        requires { is ≡ channel_of (model self.old) }
+        ensures { model self.new ≡ keeping (model self.old) signal (settled_signal was (model self.old) signal (monitor signal (model self.old))) }
     {
-        let forgets = self.forgets(signal, channel);
-        let turn = self.turn(channel);
+        let forgets = self.forgets(signal, was, is);
+        let turn = self.turn(was, is);
         let monitor = self.monitor_mut(signal);
         if forgets {
             monitor.extremes = Extremes::reset();
@@ -93,9 +96,11 @@ impl Part {
         ensures { model self.new ≡ settled_by majority channel (model self.old) }
     {
         let falls = majority && !self.majority();
-        let turns_off = channel && !self.channel();
-        self.settle_signal(Signal::Current, channel);
-        self.settle_signal(Signal::Voltage, channel);
+        // asked once for all that follows: each answer reads the settings
+        let is = self.channel();
+        let turns_off = channel && !is;
+        self.settle_signal(Signal::Current, channel, is);
+        self.settle_signal(Signal::Voltage, channel, is);
         if falls {
             self.latched = false;
             self.logs = Logs::none();

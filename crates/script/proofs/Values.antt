@@ -1,5 +1,6 @@
 -- The values of texts of digits.
-use Rattle.std.proofs.Common.{◌≡◌, ℕ, zero, suc, ◌+◌, ◌-◌, ◌≤◌, true, List, [], ◌∷◌, ◌++◌, length, take, drop, sym, refl, ap, ◌∙◌, arith, drop-drop}
+use Rattle.std.proofs.Common.{◌≡◌, ℕ, zero, suc, ◌+◌, ◌-◌, ◌*◌, ◌<◌, ◌≤◌, true, List, [], ◌∷◌, ◌++◌, length, get_or, take, drop, sym, refl, ap, ◌∙◌, arith, drop-drop}
+use Rattle.std.proofs.lemmas.Int.Digits.{digits_value_more}
 use Rattle.std.proofs.lemmas.List.{take_at, drop_at}
 use Rattle.std.proofs.lemmas.Bool.{cond-true}
 use Rattle.std.proofs.lemmas.Bool.Decides.{nat_tests}
@@ -16,6 +17,14 @@ Decimal b = (48 ≤ b) × (b ≤ 57) × (digit_value b ≡ b - 48)
 
 pub digit_is : (b : ℕ) → admits Digit b ≡ true → Decimal b
 digit_is b h = grind (arith, nat_tests)
+
+pub digit_at : (t : List ℕ) (i : ℕ) → Digits t → i < length t → Decimal (get_or t i 0)
+digit_at [] i d h = absurd (omega arith)
+digit_at (b ∷ t) zero d h = digit_is b d.0
+digit_at (b ∷ t) (suc i) d h = digit_at t i d.1 (omega arith)
+
+pub value_step : (t : List ℕ) (i n : ℕ) → Digits t → i < length t → n ≡ digits_value 10 (take i t) → n * 10 + (get_or t i 0 - 48) ≡ digits_value 10 (take (i + 1) t)
+value_step t i n d h e = omega (arith, digits_value_more 10 t i h, (digit_at t i d h).2, e)
 
 -- digits before a space are the run of digits there
 run_before : (n : ℕ) (t rest : List ℕ) → Digits t → length t ≤ n → run n (t ++ (32 ∷ rest)) ≡ length t

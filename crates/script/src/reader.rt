@@ -1,10 +1,10 @@
 //! From a line to its command: the fields' texts as values.
-ghost use Rattle.std.specs.Prelude.{◌≡◌, [], ◌∷◌, MatchResult, ◌==◌, slice_index};
+ghost use Rattle.std.specs.Prelude.{◌≡◌, ◌<◌, true, [], ◌∷◌, MatchResult, ◌==◌, slice_index};
 ghost use Rattle.std.specs.Str.Parse.{digits_value};
-ghost use Rattle.std.specs.Str.{IsAscii};
+ghost use Rattle.std.specs.Char.{digit_value};
 ghost use Rattle.registers.specs.Pins.{level_of};
 ghost use Rattle.script.specs.declared.class.Class.TheVariants.{Bit, Hex};
-ghost use Rattle.script.specs.Grammar.{one, number, Spells, Matches, Right, Wrong};
+ghost use Rattle.script.specs.Grammar.{admits, one, number, Spells, Matches, Right, Wrong};
 ghost use Rattle.script.specs.Said.{Spelled, spelling};
 ghost use Rattle.script.specs.Commands.{meant};
 
@@ -12,20 +12,30 @@ use crate::command::Command;
 use crate::line::{Line, parse};
 use registers::pins::Level;
 
-/// The bytes of a field as text.
-fn ascii(text: &[u8]) -> &str
-    requires { IsAscii text.now }
-    ensures { result.now ≡ text.now }
-{
-    str::from_utf8(text).unwrap()
-}
-
 /// The value of one to four digits.
+// A sum over the digits, here and below: to read them as text and parse that took twice the time of a whole line.
 fn decimal(text: &[u8]) -> u16
     requires { Spells number text.now }
     ensures { result ≡ digits_value 10 text.now }
 {
-    ascii(text).parse().unwrap()
+    let mut n: u16 = 0;
+    for byte in text {
+        n = n * 10 + u16::from(*byte - b'0');
+    }
+    n
+}
+
+/// The value of a hexadecimal digit.
+fn nibble(digit: u8) -> u8
+    requires { admits Hex digit ≡ true }
+    ensures value { result ≡ digit_value digit }
+    ensures small { result < 16 }
+{
+    if digit <= b'9' {
+        digit - b'0'
+    } else {
+        digit - b'A' + 10
+    }
 }
 
 /// The value of two hexadecimal digits.
@@ -33,7 +43,7 @@ fn hex(text: &[u8]) -> u8
     requires { Matches (one Hex ∷ one Hex ∷ []) text.now }
     ensures { result ≡ digits_value 16 text.now }
 {
-    u8::from_str_radix(ascii(text), 16).unwrap()
+    nibble(text[0]) * 16 + nibble(text[1])
 }
 
 /// The level that a bit says.

@@ -1,14 +1,17 @@
-use Rattle.std.proofs.Common.{ap, rules, arith}
-use Rattle.std.proofs.lemmas.Str.Parse.{IsNumeralModel, numerals_by_value, digits_value_short, parse_gives}
-use Rattle.std.specs.Result.{is_ok}
+use Rattle.std.proofs.Common.{◌+◌, ◌*◌, ap, ◌∙◌, pow-suc, add-one, arith}
+use Rattle.std.proofs.lemmas.List.{take_all}
 use Rattle.std.specs.Str.Parse.{digits_value}
-use Rattle.script.specs.Grammar.{Digits}
+use Rattle.script.proofs.Values.{digit_at, value_step}
 use Rattle.script.proofs.reader.decimal.Goals as goal
 
-numerals : IsNumeralModel Digits (digits_value 10)
-numerals = numerals_by_value Digits (search rules)
+pub overflow_sub-byte : goal.overflow_sub-byte
+overflow_sub-byte c = (digit_at c.args.text.now c.loop-byte.byte-index c.requires.2 (omega arith)).0
 
-pub unwrap-requires : goal.unwrap-requires
-unwrap-requires c =
-    let small = digits_value_short numerals c.args.text.now 4 c.requires.2 c.requires.1 in
-    ap is_ok (parse_gives numerals 16 c.args.text.now c.parse.result (rw c.ascii.ensures at c.parse.ensures.value.0) c.requires.2 c.requires.0 (omega arith))
+pub loop-byte-preserved : goal.loop-byte-preserved
+loop-byte-preserved c =
+    let d = digit_at c.args.text.now c.loop-byte.byte-index c.requires.2 (omega arith) in
+    let step = value_step c.args.text.now c.loop-byte.byte-index c.loop-byte.n c.requires.2 (omega arith) c.loop-byte.invariant.0 in
+    (ap (λ m. c.loop-byte.n * 10 + m) c.from.ensures ∙ step, rw (add-one, pow-suc) (omega (arith, c.from.ensures, d.1, c.loop-byte.invariant.1)))
+
+pub returns : goal.returns
+returns c = c.loop-byte.invariant.0 ∙ ap (digits_value 10) (take_all c.loop-byte.byte-index c.args.text.now (omega arith))

@@ -3,7 +3,7 @@ use Rattle.std.proofs.lemmas.List.{take_all}
 use Rattle.std.proofs.lemmas.Grind.{common_steps}
 use Rattle.answers.specs.Text.{hex_text}
 use Rattle.answers.proofs.Digits.{hex_more, length_hex_taken}
-use Rattle.answers.proofs.text.push_report.Goals as goal
+use Rattle.answers.proofs.text.report_text.Goals as goal
 
 pub push_hex-requires : goal.push_hex-requires
 push_hex-requires c = omega (arith, c.told-report, ap length c.loop-byte.invariant, length_hex_taken c.args.report.now c.loop-byte.byte-index (omega arith))
