@@ -1,5 +1,5 @@
 //! The text of each answer, as long as it can get: a short one is made in little room.
-ghost use Rattle.std.specs.Prelude.{◌≡◌, ◌+◌, ◌<◌, ◌≤◌, [], ◌∷◌, ◌++◌};
+ghost use Rattle.std.specs.Prelude.{◌≡◌, ◌+◌, ◌<◌, ◌≤◌, [], ◌∷◌, ◌++◌, length, decimal};
 ghost use Rattle.arrayvec.specs.ArrayString.{array_string_len};
 ghost use Rattle.answers.specs.Text.{hex_digit, hex_text, byte_text, report_text, refusal_text};
 
@@ -18,6 +18,9 @@ const REPORT: usize = 541;
 
 /// Room for a refusal, which has 28 bytes at most: the line's number has ten digits then, and its own three.
 const REFUSAL: usize = 32;
+
+/// How long the words of a refusal are, with the spaces and the line feed around its numbers.
+const WORDS: usize = 15;
 
 /// A hexadecimal digit, the high ones in capitals.
 fn hex_digit(n: u8) -> char
@@ -75,4 +78,20 @@ pub(crate) fn refusal_text(line: u32, number: u8) -> ArrayString<REFUSAL>
     text.push_str(digits.format(number));
     text.push_str("\n");
     text
+}
+
+/// How many digits a number has.
+fn digits(n: u32) -> usize
+    ensures value { result ≡ length (decimal n) }
+    ensures bound { result ≤ 10 }
+{
+    if n < 10 { 1 } else { digits(n / 10) + 1 }
+}
+
+/// How long a refusal is.
+// Counted, and no text made: whoever has a refusal has its text already, and asks for its end alone.
+pub(crate) fn refusal_length(line: u32, number: u8) -> usize
+    ensures { result ≡ length (refusal_text line number) }
+{
+    digits(line) + digits(u32::from(number)) + WORDS
 }
