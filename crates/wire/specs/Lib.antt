@@ -1,5 +1,6 @@
 pub mod Changes
 pub mod Lines
+pub mod Bytes
 pub mod Receive
 pub mod Rests
 pub mod Wired

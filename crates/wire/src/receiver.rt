@@ -4,6 +4,7 @@ ghost use Rattle.part.specs.Model.{powered};
 ghost use Rattle.wire.specs.Receive.{completed, shifted, resting, addressed, pointed, written, to_send, next_pointer, driving, opened, begun, risen, fallen, reacted, received, happened};
 ghost use Rattle.wire.specs.Laws.{received_all, OnlyCalls};
 ghost use Rattle.wire.specs.Rests.{Receives};
+ghost use Rattle.wire.specs.Bytes.{ShowsBytes};
 ghost use Rattle.part.specs.Events.{tick as ticks, pin as pins, trip as trips};
 ghost use Rattle.part.specs.Shown.{outputs as outputs_of};
 
@@ -134,14 +135,17 @@ fn after_byte(pointer: u8) -> u8
 impl Receiver {
     /// A part of its own that powers up with these pins, on a bus at rest, and owes nothing.
     pub fn power_up(pins: Pins) -> Receiver
-        ensures { result ≡ resting (powered pins) 0 }
+        ensures rest { result ≡ resting (powered pins) 0 }
+        ensures bytes { ShowsBytes result.behind.part }
     {
         Receiver::new(pins, 0)
     }
 
     /// A part that powers up with these pins and owes silences, on a bus at rest.
+    #[tactic(auto, using(crate::proofs::Byte::shows_bytes))]
     pub fn new(pins: Pins, hold_off: u8) -> Receiver
-        ensures { result ≡ resting (powered pins) hold_off }
+        ensures rest { result ≡ resting (powered pins) hold_off }
+        ensures bytes { ShowsBytes result.behind.part }
     {
         Receiver {
             levels: Levels::REST,
@@ -249,6 +253,7 @@ impl Receiver {
         ensures after { self.new ≡ received self.old levels }
         ensures sda { result ≡ (received self.old levels).drives }
         ensures byte { to_send self.new.behind < 256 }
+        ensures bytes { ShowsBytes self.new.behind.part }
     {
         self.react(Change::between(self.levels, levels, self.drives));
         self.levels = levels;
@@ -312,36 +317,47 @@ impl Receiver {
     pub fn receive_all(&mut self, levels: &[Levels])
         ensures after { self.new ≡ received_all self.old levels.now }
         ensures only { OnlyCalls self.old.behind.part self.new.behind.part }
+        ensures bytes { ShowsBytes self.new.behind.part }
     {
         for pair in levels {
             self.receive(*pair);
         }
+        // read for the proof alone: where no pair came, a part shows bytes by its type
+        let _ = &self.part;
     }
 
     /// A tick of the part; the bus stays as it is.
+    #[tactic(auto, using(crate::proofs::Byte::shows_bytes))]
     pub fn tick(&mut self, samples: Samples)
-        ensures { self.new ≡ happened self.old (ticks samples.current.value samples.voltage.value) }
+        ensures after { self.new ≡ happened self.old (ticks samples.current.value samples.voltage.value) }
+        ensures bytes { ShowsBytes self.new.behind.part }
     {
         self.part.tick(samples);
     }
 
     /// An input pin of the part goes to a level.
+    #[tactic(auto, using(crate::proofs::Byte::shows_bytes))]
     pub fn pin(&mut self, pin: Pin, level: Level)
-        ensures { self.new ≡ happened self.old (pins pin level) }
+        ensures after { self.new ≡ happened self.old (pins pin level) }
+        ensures bytes { ShowsBytes self.new.behind.part }
     {
         self.part.pin(pin, level);
     }
 
     /// The breaker trips.
+    #[tactic(auto, using(crate::proofs::Byte::shows_bytes))]
     pub fn trip(&mut self, trip: Trip)
-        ensures { self.new ≡ happened self.old (trips trip) }
+        ensures after { self.new ≡ happened self.old (trips trip) }
+        ensures bytes { ShowsBytes self.new.behind.part }
     {
         self.part.trip(trip);
     }
 
     /// The levels of the part's output pins.
+    #[tactic(auto, using(crate::proofs::Byte::shows_bytes_by))]
     pub fn outputs(&self) -> Outputs
-        ensures { result ≡ outputs_of self.now.behind.part }
+        ensures levels { result ≡ outputs_of self.now.behind.part }
+        ensures bytes { ShowsBytes self.now.behind.part }
     {
         self.part.outputs()
     }

@@ -2,12 +2,15 @@ use Rattle.std.proofs.Common.{◌≡◌, ap, ◌∙◌, rules}
 use Rattle.wire.specs.Changes.{changed}
 use Rattle.wire.specs.Lines.{Line}
 use Rattle.wire.specs.Receive.{at_levels, reacted}
-use Rattle.wire.proofs.Byte.{byte_to_send}
+use Rattle.wire.proofs.Byte.{byte_to_send, shows_bytes}
 use Rattle.wire.proofs.Levelled.{levelled}
 use Rattle.wire.proofs.receiver.Receiver.receive.Goals as goal
 
 pub returns-clause-byte : goal.returns-clause-byte
 returns-clause-byte c = byte_to_send c.self.inside
+
+pub returns-clause-bytes : goal.returns-clause-bytes
+returns-clause-bytes c = shows_bytes c.self.inside.part
 
 pub returns-clause-after : goal.returns-clause-after
 returns-clause-after c =

@@ -1,4 +1,5 @@
 use Rattle.std.proofs.Common.{◌∙◌, rules}
+use Rattle.wire.proofs.Byte.{shows_bytes_by}
 use Rattle.wire.proofs.Only.{more_levels, all_levels}
 use Rattle.wire.proofs.receiver.Receiver.receive_all.Goals as goal
 
@@ -10,4 +11,4 @@ loop-pair-preserved c =
 pub returns : goal.returns
 returns c =
     let both = all_levels c.args.self.now c.loop-pair.self c.args.levels.now c.loop-pair.pair-index (search rules) c.loop-pair.invariant in
-    record { after = both.0; only = both.1 }
+    record { after = both.0; only = both.1; bytes = shows_bytes_by c.self.inside _ c.self.view_is }
