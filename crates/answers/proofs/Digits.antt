@@ -1,7 +1,7 @@
 -- Bytes in hexadecimal, one after the other.
-use Rattle.std.proofs.Common.{◌≡◌, ℕ, ◌+◌, ◌*◌, ◌/◌, ◌%◌, ◌<◌, ◌≤◌, List, [], ◌∷◌, ◌++◌, length, get_or, take, sym, refl, ap, ◌∙◌, arith, length-take-le}
+use Rattle.std.proofs.Common.{◌≡◌, ℕ, ◌+◌, ◌*◌, ◌/◌, ◌%◌, ◌<◌, ◌≤◌, List, [], ◌∷◌, ◌++◌, length, get_or, take, sym, refl, ap, ◌∙◌, arith, codes, length-append, length-take-le}
 use Rattle.std.proofs.lemmas.List.{take_more}
-use Rattle.answers.specs.Text.{hex_digit, hex_text}
+use Rattle.answers.specs.Text.{hex_digit, hex_text, report_text}
 
 hex_append : (xs ys : List ℕ) → hex_text (xs ++ ys) ≡ hex_text xs ++ hex_text ys
 hex_append [] ys = refl
@@ -17,3 +17,7 @@ hex_more bytes i inside = sym (hex_append (take i bytes) (get_or bytes i 0 ∷ [
 
 pub length_hex_taken : (bytes : List ℕ) (i : ℕ) → i ≤ length bytes → length (hex_text (take i bytes)) ≡ 2 * i
 length_hex_taken bytes i inside = length_hex (take i bytes) ∙ ap (λ k. 2 * k) (length-take-le i bytes inside)
+
+-- a report as an answer: two digits for each byte, and a line feed
+pub length_report : (bytes : List ℕ) → length (report_text bytes) ≡ 2 * length bytes + 1
+length_report bytes = omega (arith, length-append (hex_text bytes) (codes "\n"), length_hex bytes)

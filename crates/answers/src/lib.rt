@@ -7,7 +7,7 @@ ghost use Rattle.answers.specs.Text.{text_of, at_front, written_length, written_
 mod text;
 
 use report::{REPORT_BYTES, WrongSize};
-use text::{DONE, byte_text, refusal_length, refusal_text, report_text};
+use text::{BYTE, DONE, byte_text, refusal_length, refusal_text, report_text};
 
 /// How many bytes the buffer of an answer has. The longest answer, a report, leaves three of them as they were.
 pub const ANSWER_BYTES: usize = 544;
@@ -50,7 +50,7 @@ impl Answer<'_> {
     {
         match self {
             Answer::Done => DONE.len(),
-            Answer::Byte(byte) => byte_text(byte).len(),
+            Answer::Byte(_) => BYTE,
             Answer::Report(report) => report_text(report).len(),
             Answer::Refused { line, number } => refusal_length(line, number),
         }

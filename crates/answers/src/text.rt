@@ -8,10 +8,10 @@ use itoa::Buffer;
 use report::REPORT_BYTES;
 
 /// The answer to a line that was done.
-pub const DONE: &str = "ok\n";
+pub(crate) const DONE: &str = "ok\n";
 
 /// How long the answer with a byte is.
-const BYTE: usize = 5;
+pub(crate) const BYTE: usize = 5;
 
 /// How long a report is, the longest answer: two digits for each byte, and a line feed.
 const REPORT: usize = 541;
@@ -55,7 +55,8 @@ pub(crate) fn byte_text(byte: u8) -> ArrayString<BYTE>
 
 /// All bytes of a report, with nothing between them.
 pub(crate) fn report_text(report: &[u8; REPORT_BYTES]) -> ArrayString<REPORT>
-    ensures { result.bytes ≡ report_text report.now }
+    ensures text { result.bytes ≡ report_text report.now }
+    ensures long { array_string_len result ≡ 541 }
 {
     let mut text = ArrayString::new();
     for byte in report {
@@ -91,7 +92,8 @@ fn digits(n: u32) -> usize
 /// How long a refusal is.
 // Counted, and no text made: whoever has a refusal has its text already, and asks for its end alone.
 pub(crate) fn refusal_length(line: u32, number: u8) -> usize
-    ensures { result ≡ length (refusal_text line number) }
+    ensures value { result ≡ length (refusal_text line number) }
+    ensures bound { result ≤ 28 }
 {
     digits(line) + digits(u32::from(number)) + WORDS
 }
