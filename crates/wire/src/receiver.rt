@@ -353,6 +353,15 @@ impl Receiver {
         self.part.trip(trip);
     }
 
+    /// For the proofs of a rig over it: all that the part shows are bytes.
+    #[tactic(auto, using(crate::proofs::Byte::shows_bytes_by))]
+    #[inline(always)]
+    pub(crate) fn shows_bytes(&self)
+        ensures { ShowsBytes self.now.behind.part }
+    {
+        let _ = &self.part;
+    }
+
     /// The levels of the part's output pins.
     #[tactic(auto, using(crate::proofs::Byte::shows_bytes_by))]
     pub fn outputs(&self) -> Outputs

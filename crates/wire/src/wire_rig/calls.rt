@@ -60,20 +60,29 @@ impl Rig for Wire {
     fn put(&mut self, address: u8, register: u8, byte: u8) -> Result<(), Refusal> {
         check_register(register)?;
         // silence is passed up by `?`, a rule of the project, here and in `block`
-        acknowledged(sender::put(&mut self.receiver, address, register, byte))?;
+        let receiver = &mut self.receiver;
+        let sent = sender::put(receiver, address, register, byte);
+        receiver.shows_bytes();
+        acknowledged(sent)?;
         Ok(())
     }
 
     fn get(&mut self, address: u8, register: u8) -> Result<u8, Refusal> {
         check_register(register)?;
         let mut byte = [0];
-        acknowledged(sender::read(&mut self.receiver, address, register, &mut byte))?;
+        let receiver = &mut self.receiver;
+        let sent = sender::read(receiver, address, register, &mut byte);
+        receiver.shows_bytes();
+        acknowledged(sent)?;
         Ok(byte[0])
     }
 
     fn block(&mut self, address: u8, base: u8, out: &mut [u8]) -> Result<(), Refusal> {
         check_block(base, out.len())?;
-        acknowledged(sender::read(&mut self.receiver, address, base, out))?;
+        let receiver = &mut self.receiver;
+        let sent = sender::read(receiver, address, base, out);
+        receiver.shows_bytes();
+        acknowledged(sent)?;
         Ok(())
     }
 }

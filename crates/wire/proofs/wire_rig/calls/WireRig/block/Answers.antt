@@ -8,10 +8,10 @@ use Rattle.wire.proofs.wire_rig.calls.WireRig.block.Goals as goal
 
 pub invariant_of-self : goal.invariant_of-self
 invariant_of-self c =
-    let fits : sized (length c.read.new.into) ≡ true = search rules in
+    let fits : sized (length c.read-sent.new.into) ≡ true = search rules in
     let ring : ring_base c.args.base ≡ true = search rules in
-    let m = block_frames c.args.self.now.receiver c.read.new.bus c.args.address c.args.base c.read.new.into c.read.result c.args.self.now.rests fits ring c.read.ensures.bytes c.read.ensures.unsent c.read.ensures.run in
-    record { rests = m.rested }
+    let m = block_frames c.args.self.now.receiver c.read-sent.new.bus c.args.address c.args.base c.read-sent.new.into c.read-sent.result c.args.self.now.rests fits ring c.read-sent.ensures.bytes c.read-sent.ensures.unsent c.read-sent.ensures.run in
+    record { rests = m.rested; bytes = c.shows_bytes.ensures }
 
 pub returns-in_err-check_block : goal.returns-in_err-check_block
 returns-in_err-check_block c =
@@ -26,33 +26,33 @@ returns-in_err-check_block c =
 
 pub returns-in_err-acknowledged : goal.returns-in_err-acknowledged
 returns-in_err-acknowledged c =
-    let fits : sized (length c.read.new.into) ≡ true = search rules in
+    let fits : sized (length c.read-sent.new.into) ≡ true = search rules in
     let sized_out : sized (length c.args.out.now) ≡ true = search rules in
     let ring : ring_base c.args.base ≡ true = search rules in
-    let same : c.read.new.into ≡ c.args.out.now = c.read.ensures.kept (was_err c.read.result _ c.in_err-acknowledged.ensures) in
+    let same : c.read-sent.new.into ≡ c.args.out.now = c.read-sent.ensures.kept (was_err c.read-sent.result _ c.in_err-acknowledged.ensures) in
     let v = c.args.self.now.receiver in
-    let m = block_frames c.args.self.now.receiver c.read.new.bus c.args.address c.args.base c.read.new.into c.read.result c.args.self.now.rests fits ring c.read.ensures.bytes c.read.ensures.unsent c.read.ensures.run in
+    let m = block_frames c.args.self.now.receiver c.read-sent.new.bus c.args.address c.args.base c.read-sent.new.into c.read-sent.result c.args.self.now.rests fits ring c.read-sent.ensures.bytes c.read-sent.ensures.unsent c.read-sent.ensures.run in
     let e = err_from_is_err_and c.from_residual-in_err-acknowledged.result c.from_residual-in_err-acknowledged.ensures.1 in
     let silent : refused c.in_err-acknowledged.field-0.0 ≡ answer (meaning_of v) (block c.args.address c.args.base (length c.args.out.now)) =
-    sym (said_err c.read.result (bytes c.read.new.into) _ c.in_err-acknowledged.ensures) ∙ m.answers ∙ ap (λ xs. answer (meaning_of v) (block c.args.address c.args.base (length xs))) same in
+    sym (said_err c.read-sent.result (bytes c.read-sent.new.into) _ c.in_err-acknowledged.ensures) ∙ m.answers ∙ ap (λ xs. answer (meaning_of v) (block c.args.address c.args.base (length xs))) same in
     record {
-      answers = ap (told (λ _. bytes c.read.new.into)) e.1 ∙ ap refused e.2 ∙ silent;
+      answers = ap (told (λ _. bytes c.read-sent.new.into)) e.1 ∙ ap refused e.2 ∙ silent;
       after = m.after ∙ ap (λ xs. next (meaning_of v) (block c.args.address c.args.base (length xs))) same;
       filled = same ∙ filled_refused (meaning_of v) c.args.address c.args.base c.args.out.now sized_out ring _ silent;
     }
 
 pub returns : goal.returns
 returns c =
-    let fits : sized (length c.read.new.into) ≡ true = search rules in
+    let fits : sized (length c.read-sent.new.into) ≡ true = search rules in
     let sized_out : sized (length c.args.out.now) ≡ true = search rules in
     let ring : ring_base c.args.base ≡ true = search rules in
-    let len : length c.read.new.into ≡ length c.args.out.now = search rules in
+    let len : length c.read-sent.new.into ≡ length c.args.out.now = search rules in
     let v = c.args.self.now.receiver in
-    let m = block_frames c.args.self.now.receiver c.read.new.bus c.args.address c.args.base c.read.new.into c.read.result c.args.self.now.rests fits ring c.read.ensures.bytes c.read.ensures.unsent c.read.ensures.run in
-    let heard : bytes c.read.new.into ≡ answer (meaning_of v) (block c.args.address c.args.base (length c.args.out.now)) =
-    sym (said_ok c.read.result (bytes c.read.new.into) _ c.in_ok-acknowledged.ensures) ∙ m.answers ∙ ap (λ n. answer (meaning_of v) (block c.args.address c.args.base n)) len in
+    let m = block_frames c.args.self.now.receiver c.read-sent.new.bus c.args.address c.args.base c.read-sent.new.into c.read-sent.result c.args.self.now.rests fits ring c.read-sent.ensures.bytes c.read-sent.ensures.unsent c.read-sent.ensures.run in
+    let heard : bytes c.read-sent.new.into ≡ answer (meaning_of v) (block c.args.address c.args.base (length c.args.out.now)) =
+    sym (said_ok c.read-sent.result (bytes c.read-sent.new.into) _ c.in_ok-acknowledged.ensures) ∙ m.answers ∙ ap (λ n. answer (meaning_of v) (block c.args.address c.args.base n)) len in
     record {
       answers = heard;
       after = m.after ∙ ap (λ n. next (meaning_of v) (block c.args.address c.args.base n)) len;
-      filled = filled_done (meaning_of v) c.args.address c.args.base c.args.out.now sized_out ring c.read.new.into heard;
+      filled = filled_done (meaning_of v) c.args.address c.args.base c.args.out.now sized_out ring c.read-sent.new.into heard;
     }
