@@ -11,7 +11,7 @@ use Rattle.wire.specs.Receive.{view, to_send}
 use Rattle.wire.specs.Bytes.{ShowsBytes}
 
 pub shows_bytes : (p : Part) → ShowsBytes (model p)
-shows_bytes p = record { registers = shown_fits p; readouts = block_fits p }
+shows_bytes p = record { registers = shown_fits p; readouts = block_fits p; settings = p.settings.held }
 
 -- a receiver's line is the view of its fields
 pub shows_bytes_by : (r : Inside) (v : Line) → view r ≡ v → ShowsBytes v.behind.part

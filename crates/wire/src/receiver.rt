@@ -142,7 +142,6 @@ impl Receiver {
     }
 
     /// A part that powers up with these pins and owes silences, on a bus at rest.
-    #[tactic(auto, using(crate::proofs::Byte::shows_bytes))]
     pub fn new(pins: Pins, hold_off: u8) -> Receiver
         ensures rest { result ≡ resting (powered pins) hold_off }
         ensures bytes { ShowsBytes result.behind.part }
@@ -327,7 +326,6 @@ impl Receiver {
     }
 
     /// A tick of the part; the bus stays as it is.
-    #[tactic(auto, using(crate::proofs::Byte::shows_bytes))]
     pub fn tick(&mut self, samples: Samples)
         ensures after { self.new ≡ happened self.old (ticks samples.current.value samples.voltage.value) }
         ensures bytes { ShowsBytes self.new.behind.part }
@@ -336,7 +334,6 @@ impl Receiver {
     }
 
     /// An input pin of the part goes to a level.
-    #[tactic(auto, using(crate::proofs::Byte::shows_bytes))]
     pub fn pin(&mut self, pin: Pin, level: Level)
         ensures after { self.new ≡ happened self.old (pins pin level) }
         ensures bytes { ShowsBytes self.new.behind.part }
@@ -345,7 +342,6 @@ impl Receiver {
     }
 
     /// The breaker trips.
-    #[tactic(auto, using(crate::proofs::Byte::shows_bytes))]
     pub fn trip(&mut self, trip: Trip)
         ensures after { self.new ≡ happened self.old (trips trip) }
         ensures bytes { ShowsBytes self.new.behind.part }
