@@ -13,7 +13,7 @@ use crate::line::{Line, parse};
 use registers::pins::Level;
 
 /// The value of one to four digits.
-// A sum over the digits, here and below: to read them as text and parse that took twice the time of a whole line.
+// A sum over the digits, here and below: to read them as text and parse that took twice as long.
 fn decimal(text: &[u8]) -> u16
     requires { Spells number text.now }
     ensures { result ≡ digits_value 10 text.now }
